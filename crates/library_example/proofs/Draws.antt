@@ -2,28 +2,16 @@
 use Rattle.std.proofs.Common.{◌≡◌, ℕ, ◌<◌, List, [], length, slice_index, EachIndex, true, refl, sym, ap, subst, ◌∙◌}
 use Rattle.smp_frac.specs.Fractions.{Same}
 use Rattle.smp_frac.proofs.Arithmetic.{same_trans}
-use Rattle.smp_prob.specs.Requested.{requested_fraction, requested_of}
-use Rattle.smp_prob.specs.Shares.{Shares}
-use Rattle.smp_prob.specs.Inclusions.{asked_fraction, IsRising}
-use Rattle.smp_prob.specs.declared.orders.Order.TheVariants.{Frame}
-use Rattle.smp_prob.specs.declared.requests.Request.{Request}
-use Rattle.smp_tape.specs.declared.draws.DrawFault.{DrawFault}
-use Rattle.smp_tape.specs.TapeSources.{tape_source}
-use Rattle.smp_tape.specs.Tapes.{Values, tape_of_values}
-use Rattle.smp_split.specs.Counts.{selected_units}
-use Rattle.smp_split.specs.Means.{inclusion_probability}
-use Rattle.smp_split.specs.Orders.{Ordered}
-use Rattle.smp_split.specs.Paths.{Entry}
-use Rattle.smp_split.specs.Runs.{leaf, run, stopped, IsLeaf, IsOutcome}
-use Rattle.smp_split.specs.Trees.{Tree}
-use Rattle.smp_split.specs.declared.walking.WalkFault.{WalkFault}
+use Rattle.smp_prob.specs.{Requested.{requested_fraction, requested_of}, Shares.{Shares}, Inclusions.{asked_fraction, IsRising}}
+use Rattle.smp_prob.specs.{declared.orders.Order.TheVariants.{Frame}, declared.requests.Request.{Request}}
+use Rattle.smp_tape.specs.{declared.draws.DrawFault.{DrawFault}, TapeSources.{tape_source}, Tapes.{Values, tape_of_values}}
+use Rattle.smp_split.specs.{Counts.{selected_units}, Means.{inclusion_probability}, Orders.{Ordered}, Paths.{Entry}, Trees.{Tree}}
+use Rattle.smp_split.specs.{Runs.{leaf, run, stopped, IsLeaf, IsOutcome}, declared.walking.WalkFault.{WalkFault}, Laws.Rows.{rows_lawful}}
 use Rattle.smp_split.specs.declared.walking.WalkFault.TheVariants as walks
 use Rattle.smp_split.proofs.Runs.{run_is}
 use Rattle.smp_split.specs.Rows.{rows_tree, BelongsToRows}
-use Rattle.smp_split.specs.Laws.Rows.{rows_lawful}
 use Rattle.smp_pivotal.specs.PivotalMethod.{method_of, started}
-use Rattle.library_example.specs.Draws.{tree_of, start_of, IsDrawn, IsRefused}
-use Rattle.library_example.specs.Faults.{of_walk}
+use Rattle.library_example.specs.{Draws.{tree_of, start_of, IsDrawn, IsRefused}, Faults.{of_walk}}
 use Rattle.library_example.specs.declared.fault.Fault.TheVariants as faults
 
 -- the request, the design and the first state of a draw

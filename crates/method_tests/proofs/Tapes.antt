@@ -3,17 +3,10 @@ use Rattle.std.proofs.Common.{rules, ◌≡◌, ◌&&◌, ◌==◌, ℕ, List, [
 use denote.Enum.Bare.{sameb, same_true, true_same}
 use Rattle.std.specs.Bool.{Decides}
 use Rattle.std.proofs.lemmas.Bool.Decides.{Decides-and, Decides-eqb}
-use Rattle.smp_split.specs.declared.kind.Kind.{Kind}
-use Rattle.smp_split.specs.contracts.kind.Kind.{the_type}
-use Rattle.smp_tape.specs.declared.draws.DrawFault.{DrawFault}
-use Rattle.smp_tape.specs.Tapes.{Values, tape_of_values}
-use Rattle.smp_tape.specs.TapeSources.{tape_source}
-use Rattle.smp_split.specs.Counts.{selected_units}
-use Rattle.smp_split.specs.Paths.{Entry, values_of}
-use Rattle.smp_split.specs.Runs.{Arrived, IsLeaf, IsOutcome, Outcome, leaf, position, run, stopped}
-use Rattle.smp_split.specs.Trees.{Lawful, Tree}
-use Rattle.smp_split.proofs.Runs.{run_is}
-use Rattle.smp_split.proofs.Tapes.{full_runs}
+use Rattle.smp_split.specs.{declared.kind.Kind.{Kind}, contracts.kind.Kind.{the_type}, Counts.{selected_units}, Paths.{Entry, values_of}}
+use Rattle.smp_tape.specs.{declared.draws.DrawFault.{DrawFault}, Tapes.{Values, tape_of_values}, TapeSources.{tape_source}}
+use Rattle.smp_split.specs.{Runs.{Arrived, IsLeaf, IsOutcome, Outcome, leaf, position, run, stopped}, Trees.{Lawful, Tree}}
+use Rattle.smp_split.proofs.{Runs.{run_is}, Tapes.{full_runs}}
 use Rattle.method_tests.specs.Walks.{IsWalk}
 
 -- ---- entries

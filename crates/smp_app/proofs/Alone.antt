@@ -1,7 +1,6 @@
 -- There are as many seats as rows, where all strata are drawn or one alone.
-use Rattle.std.proofs.Common.{◌≡◌, Bool, true, false, ℕ, length, Option, Some, None, ◌∙◌}
+use Rattle.std.proofs.{Common.{◌≡◌, Bool, true, false, ℕ, length, Option, Some, None, ◌∙◌}, lemmas.List.{length-map}}
 use Rattle.std.specs.List.{range_with_len}
-use Rattle.std.proofs.lemmas.List.{length-map}
 use Rattle.std.proofs.lemmas.List.FromFn.{length-range_with_len}
 use Rattle.smp_strata.specs.Plans.{Plan}
 use Rattle.smp_twostage.specs.Selections.{Coverage, covered_seats, is_together, seat_alone, seat_together, seats_by}

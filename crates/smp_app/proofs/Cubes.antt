@@ -1,48 +1,26 @@
 -- What the cube draws of the strata of a plan, and what the report tells of it.
 use Rattle.std.proofs.Common.{◌≡◌, ℕ, Bool, true, false, List, [], ◌∷◌, length, map, Option, Some, None, refl, sym, ap, subst, ◌∙◌}
-use Rattle.std.specs.Prelude.{option_map, unwrap_or}
-use Rattle.std.specs.List.{range_with_len, slice_get}
-use Rattle.std.proofs.Math.Path.{fun_ext}
-use Rattle.std.proofs.lemmas.List.{length-map}
-use Rattle.std.proofs.lemmas.List.FromFn.{fill_by_all}
-use Rattle.std.proofs.lemmas.Simd.{map-map}
-use Rattle.smp_split.specs.Paths.{Entry}
+use Rattle.std.specs.{Prelude.{option_map, unwrap_or}, List.{range_with_len, slice_get}}
+use Rattle.std.proofs.{Math.Path.{fun_ext}, lemmas.List.{length-map}, lemmas.List.FromFn.{fill_by_all}, lemmas.Simd.{map-map}}
+use Rattle.smp_split.specs.{Paths.{Entry}, declared.places.Stage.{Stage}, StagePaths.{GoesByStages}, Stages.{Progress}}
 use Rattle.smp_moves.specs.Cubes.{left_in, values_in}
 use Rattle.smp_values.specs.Values.{is_one}
 use Rattle.smp_prob.specs.Inclusions.{asked_fraction, inclusion, is_taken}
 use Rattle.smp_frac.specs.LowestTerms.{lowest_terms}
-use Rattle.smp_twostage.specs.Strata.{AreStratumUnits, free_values, values_of}
-use Rattle.smp_twostage.specs.Reports.{TellsOf}
-use Rattle.smp_twostage.proofs.Balances.{each_is_balanced}
-use Rattle.smp_twostage.proofs.Reports.{each_line_tells}
-use Rattle.smp_twostage.specs.Totals.{IsBalancedFrame}
+use Rattle.smp_twostage.specs.{Strata.{AreStratumUnits, free_values, values_of}, Reports.{TellsOf}, Totals.{IsBalancedFrame}}
+use Rattle.smp_twostage.proofs.{Balances.{each_is_balanced}, Reports.{each_line_tells}, Cubes.{cube_selected}, StartsBy.{first_so}}
 use Rattle.smp_design.specs.Words.{balances, draws_together}
-use Rattle.smp_methods.specs.declared.any.AnyState.{AnyState}
+use Rattle.smp_methods.specs.{declared.any.AnyState.{AnyState}, Designs.{design_by, left_at}}
 use Rattle.smp_methods.specs.declared.any.AnyState.TheVariants as states
-use Rattle.smp_methods.specs.Designs.{design_by, left_at}
-use Rattle.smp_split.specs.declared.places.Stage.{Stage}
-use Rattle.smp_split.specs.StagePaths.{GoesByStages}
-use Rattle.smp_split.specs.Stages.{Progress}
-use Rattle.smp_strata.specs.Plans.{Plan}
-use Rattle.smp_strata.specs.declared.strata.Stratum.{Stratum}
-use Rattle.smp_twostage.specs.Covered.{covered_left}
-use Rattle.smp_twostage.specs.Laws.Numbering.{first_there}
+use Rattle.smp_strata.specs.{Plans.{Plan}, declared.strata.Stratum.{Stratum}, Seats.{first_fraction, unit_fraction}}
+use Rattle.smp_twostage.specs.{Covered.{covered_left}, Laws.Numbering.{first_there}, Lines.{seat_values, told, told_seats}}
 use Rattle.smp_twostage.specs.Cubes.{IsDrawnByCube, IsDrawnTogether, balancing, by_cube, by_local_cube, frame_of, leaf_of}
 use Rattle.smp_twostage.specs.Selections.{Selecting, all_of, covered_stages, covered_states, first_number, first_stage, free_points, place_together, stage_of_strata, stages_of, tree_of as stage_tree, units_at}
-use Rattle.smp_strata.specs.Seats.{first_fraction, unit_fraction}
 use Rattle.smp_strata.specs.declared.strata.Seat.{Seat}
-use Rattle.smp_twostage.specs.Lines.{seat_values, told, told_seats}
-use Rattle.smp_twostage.specs.Plans.{CanBeDrawn}
-use Rattle.smp_twostage.specs.Starts.{StartsWhole, covered_first, left_by}
-use Rattle.smp_twostage.proofs.Cubes.{cube_selected}
-use Rattle.smp_twostage.proofs.StartsBy.{first_so}
+use Rattle.smp_twostage.specs.{Plans.{CanBeDrawn}, Starts.{StartsWhole, covered_first, left_by}}
 use Rattle.smp_twostage.proofs.Told.{is_stratum as cube_stratum}
-use Rattle.smp_plan.specs.declared.plan.FramePlan.{FramePlan}
-use Rattle.smp_plan.specs.Plans.{Survey, survey_plan}
-use Rattle.smp_app.specs.Drawn.{Drawn, covered}
-use Rattle.smp_plan.specs.Planned.{IsPlanned, plan_view}
-use Rattle.smp_app.specs.Draws.{IsDrawnBy, KeepsBalance}
-use Rattle.smp_app.specs.Reports.{TellsBalance, TellsSection}
+use Rattle.smp_plan.specs.{declared.plan.FramePlan.{FramePlan}, Plans.{Survey, survey_plan}, Planned.{IsPlanned, plan_view}}
+use Rattle.smp_app.specs.{Drawn.{Drawn, covered}, Draws.{IsDrawnBy, KeepsBalance}, Reports.{TellsBalance, TellsSection}}
 use Rattle.smp_app.proofs.Together.{tells_together}
 
 -- ---- the strata of a plan

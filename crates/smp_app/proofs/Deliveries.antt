@@ -1,8 +1,7 @@
 -- Writes that stop at a file.
 use Rattle.std.proofs.Common.{◌≡◌, ◌≤◌, ◌<◌, ℕ, List, [], ◌∷◌, ◌++◌, length, take, drop, get_or, Option, option_map, Result, Ok, Err, OnErr, refl, sym, ap, ◌∙◌, subst, arith, suc, zero, inl, inr, ◌⊎◌}
 use Rattle.std.specs.Prelude.{Contains}
-use Rattle.smp_io.specs.Counts.{Rose, NeverFalls}
-use Rattle.smp_io.specs.Store.{Files, OthersStay}
+use Rattle.smp_io.specs.{Counts.{Rose, NeverFalls}, Store.{Files, OthersStay}}
 use Rattle.smp_app.specs.declared.outputs.OutputFile.{OutputFile}
 use Rattle.smp_app.specs.Deliveries.{Outputs, StopsAtFile, StopsAt, AtFile, AtPut, AtPlace, FailsAtFile, SomeRose, names_of, with_files}
 use Rattle.smp_plan.proofs.Steps.{rose_since}

@@ -1,23 +1,16 @@
 -- How a call ends, from what its parts did.
 use Rattle.std.proofs.Common.{◌≡◌, ◌⊎◌, ◌≤◌, ℕ, List, Option, Some, None, option_map, Ok, Err, refl, sym, ap, subst, ◌∙◌, inl, inr, true}
 use Rattle.std.specs.Prelude.{is_some, is_ok}
-use Rattle.smp_io.specs.Counts.{Rose, NeverFalls}
-use Rattle.smp_io.specs.Sink.{with_bytes, AppendsFront}
-use Rattle.smp_io.specs.Store.{Files}
-use Rattle.smp_status.specs.declared.status.Status.{Status}
+use Rattle.smp_io.specs.{Counts.{Rose, NeverFalls}, Sink.{with_bytes, AppendsFront}, Store.{Files}}
+use Rattle.smp_status.specs.{declared.status.Status.{Status}, FaultLines.{fault_line, line_by}}
 use Rattle.smp_status.specs.declared.status.Status.TheVariants as status
-use Rattle.smp_words.specs.declared.command.Command.{Command}
-use Rattle.smp_words.specs.Words.{command_of}
+use Rattle.smp_words.specs.{declared.command.Command.{Command}, Words.{command_of}}
 use Rattle.smp_status.specs.Codes.{Class, IsDone, IsUsage, IsRefusal, IsReadFault, IsWriteFault, IsNoMemory, class_of}
-use Rattle.smp_status.specs.FaultLines.{fault_line, line_by}
-use Rattle.smp_app.specs.Commands.{Job, job_of, job_for, inputs_by, inputs_named, inputs_of, outputs_of}
+use Rattle.smp_app.specs.{Commands.{Job, job_of, job_for, inputs_by, inputs_named, inputs_of, outputs_of}, Verdict.{outputs_stage, verdict}}
 use Rattle.smp_frac.specs.Faults.{◌>>=◌}
-use Rattle.smp_plan.specs.Stops.{Refused, or_refused, without}
-use Rattle.smp_app.specs.Verdict.{outputs_stage, verdict}
-use Rattle.smp_app.specs.Kept.Exact.{ExactSays, IsExact, IsExactRefusal}
-use Rattle.smp_plan.specs.Reads.{IsErrorOf, IsCaused, ReadCause, Sees}
+use Rattle.smp_plan.specs.{Stops.{Refused, or_refused, without}, Reads.{IsErrorOf, IsCaused, ReadCause, Sees}}
+use Rattle.smp_app.specs.{Kept.Exact.{ExactSays, IsExact, IsExactRefusal}, Kept.Stages.{Refusing, WorkSays}}
 use Rattle.smp_status.specs.Reports.{IsOfInputs, Put, PutsLine, Whole, Cut, OutOfMemory, Reports}
-use Rattle.smp_app.specs.Kept.Stages.{Refusing, WorkSays}
 use Rattle.smp_app.specs.Deliveries.{Outputs, SomeRose, names_of, with_files, FailsAt}
 use Rattle.smp_app.specs.Answers.{Outside, Untouched, Done, RefusesBy, Refusal, StoppedBy, NoMemory, Says, Undisturbed, IsVerdict, UsageOnly, IsAnswer}
 use Rattle.smp_plan.proofs.Steps.{rose_since}

@@ -1,89 +1,49 @@
 -- A call that ended well has drawn by the design, the frame and the draws that were read, and a log that was refused differs at its line.
 use Rattle.std.proofs.Common.{◌≡◌, ℕ, zero, suc, ◌+◌, ◌-◌, ◌^◌, ◌<◌, ◌≤◌, Bool, true, false, ◌&&◌, List, [], ◌∷◌, ◌++◌, map, length, Option, Some, None, Result, Ok, Err, refl, sym, ap, ap₂, subst, ◌∙◌, inl, inr, arith, length-append}
-use Rattle.std.specs.Prelude.{◌==◌, is_ok, option_map}
-use Rattle.std.specs.List.{filter, flat_map, range_with_len}
+use Rattle.std.specs.{Prelude.{◌==◌, is_ok, option_map}, List.{filter, flat_map, range_with_len}}
 use Rattle.std.proofs.lemmas.Bool.{cases_Bool, eqb-true}
-use Rattle.smp_io.specs.Sink.{with_bytes}
-use Rattle.smp_io.specs.Store.{Files}
-use Rattle.smp_tape.specs.TapeText.{tape_of}
-use Rattle.smp_tape.specs.Sources.{Source}
-use Rattle.smp_tape.specs.Tapes.{tape_of_values}
-use Rattle.smp_tape.specs.TapeSources.{tape_source}
-use Rattle.smp_tape.specs.Keys.{words_of_seed}
+use Rattle.smp_io.specs.{Sink.{with_bytes}, Store.{Files}}
+use Rattle.smp_tape.specs.{TapeText.{tape_of}, Sources.{Source}, Tapes.{tape_of_values}, TapeSources.{tape_source}, Keys.{words_of_seed}}
 use Rattle.smp_tape.specs.SieveSources.{key_stream, sieve_source}
-use Rattle.smp_split.specs.Counts.{selected_units}
-use Rattle.smp_split.specs.Paths.{Entry, IsFull, IsReached, values_of}
-use Rattle.smp_split.specs.Sectioning.{IsSectioned}
-use Rattle.smp_split.proofs.Sectioned.{sectioned_within}
-use Rattle.smp_split.specs.Laws.Steps.{reached_lawful}
-use Rattle.smp_split.specs.Runs.{Outcome, IsLeaf, IsOutcome, leaf, stopped, run}
-use Rattle.smp_split.proofs.Runs.{run_is, run_to_leaf}
-use Rattle.smp_split.proofs.Tapes.{full_runs, runs_full}
-use Rattle.smp_split.specs.Stages.{Progress}
-use Rattle.smp_twostage.specs.Covered.{state_alone}
-use Rattle.smp_twostage.specs.Plans.{CanBeDrawn}
-use Rattle.smp_twostage.proofs.AloneBy.{reached_own}
-use Rattle.smp_twostage.proofs.Firsts.{start_belongs}
-use Rattle.smp_twostage.proofs.SectionStarts.{IsSectionStart, section_start}
+use Rattle.smp_split.specs.{Counts.{selected_units}, Paths.{Entry, IsFull, IsReached, values_of}, Sectioning.{IsSectioned}}
+use Rattle.smp_split.proofs.{Sectioned.{sectioned_within}, Runs.{run_is, run_to_leaf}, Tapes.{full_runs, runs_full}}
+use Rattle.smp_split.specs.{Laws.Steps.{reached_lawful}, Runs.{Outcome, IsLeaf, IsOutcome, leaf, stopped, run}, Stages.{Progress}}
+use Rattle.smp_twostage.specs.{Covered.{state_alone}, Plans.{CanBeDrawn}, Laws.Wholes.{covered_lawful, strata_sectioned, whole_lawful}}
+use Rattle.smp_twostage.proofs.{AloneBy.{reached_own}, Firsts.{start_belongs}, SectionStarts.{IsSectionStart, section_start}}
 use Rattle.smp_twostage.specs.Selections.{BelongsToCovered, BelongsToWhole, Coverage, all_of, covered_start, covered_tree, is_of_section, section_count, strata_sections}
-use Rattle.smp_twostage.specs.Laws.Wholes.{covered_lawful, strata_sectioned, whole_lawful}
 use Rattle.smp_methods.specs.declared.any.AnyState.{AnyState}
-use Rattle.smp_words.specs.declared.command.DemoArguments.{DemoArguments}
-use Rattle.smp_words.specs.declared.command.DesignArguments.{DesignArguments}
-use Rattle.smp_words.specs.declared.command.DrawArguments.{DrawArguments}
-use Rattle.smp_words.specs.declared.command.MigrateArguments.{MigrateArguments}
-use Rattle.smp_words.specs.declared.command.QuickArguments.{QuickArguments}
-use Rattle.smp_words.specs.declared.command.ReplayArguments.{ReplayArguments}
-use Rattle.smp_words.specs.declared.command.Command.{Command}
+use Rattle.smp_words.specs.{declared.command.DemoArguments.{DemoArguments}, declared.command.DesignArguments.{DesignArguments}}
+use Rattle.smp_words.specs.{declared.command.DrawArguments.{DrawArguments}, declared.command.MigrateArguments.{MigrateArguments}}
+use Rattle.smp_words.specs.{declared.command.QuickArguments.{QuickArguments}, declared.command.ReplayArguments.{ReplayArguments}}
+use Rattle.smp_words.specs.{declared.command.Command.{Command}, declared.command.Chance.{Chance}, Words.{command_of}}
 use Rattle.smp_words.specs.declared.command.Command.TheVariants as commands
-use Rattle.smp_words.specs.declared.command.Chance.{Chance}
 use Rattle.smp_words.specs.declared.command.Chance.TheVariants.{Tape, Seed}
-use Rattle.smp_words.specs.Words.{command_of}
-use Rattle.smp_log.specs.Answers.{IsAnswer, log_reading}
-use Rattle.smp_log.specs.Genuine.{IsFullPath, IsGenuine}
+use Rattle.smp_log.specs.{Answers.{IsAnswer, log_reading}, Genuine.{IsFullPath, IsGenuine}, Logs.{end_text}, SectionReading.{any_reading}}
 use Rattle.smp_log.specs.Logs as logs
-use Rattle.smp_log.specs.Logs.{end_text}
-use Rattle.smp_log.specs.LoneSections.{HasSection, IsReplayedAlone, IsSectionAnswer, section_reading, section_told}
+use Rattle.smp_log.specs.{LoneSections.{HasSection, IsReplayedAlone, IsSectionAnswer, section_reading, section_told}, Heads.{IsHead}}
 use Rattle.smp_log.specs.SectionLogs.{IsAnyGenuine, IsAnyText, IsSectionedGenuine, placed, section_text, sectioned_head, sectioned_log_text, sections_text}
-use Rattle.smp_log.specs.SectionReading.{any_reading}
-use Rattle.smp_log.specs.Heads.{IsHead}
 use Rattle.smp_log.specs.Told.{path_told}
-use Rattle.smp_log.proofs.Heads.{head_of-is}
-use Rattle.smp_log.proofs.Answered.{exact_reading}
-use Rattle.smp_log.proofs.LoneAnswers.{has_reading, has_told}
-use Rattle.smp_log.proofs.LoneExact.{exact_section}
-use Rattle.smp_log.proofs.PartSections.{replayed_alone}
-use Rattle.smp_log.proofs.Telling.{genuine_told}
-use Rattle.smp_log.proofs.TwoVersions.{any_told, exact_any}
-use Rattle.smp_status.specs.declared.status.Status.{Status}
+use Rattle.smp_log.proofs.{Heads.{head_of-is}, Answered.{exact_reading}, LoneAnswers.{has_reading, has_told}, LoneExact.{exact_section}}
+use Rattle.smp_log.proofs.{PartSections.{replayed_alone}, Telling.{genuine_told}, TwoVersions.{any_told, exact_any}}
+use Rattle.smp_status.specs.{declared.status.Status.{Status}, declared.status.Status.TheVariants.{TapeLong}, Codes.{class_of, tape_status}}
 use Rattle.smp_status.specs.declared.status.Status.TheVariants as status
-use Rattle.smp_status.specs.declared.status.Status.TheVariants.{TapeLong}
-use Rattle.smp_status.specs.Codes.{class_of, tape_status}
-use Rattle.smp_plan.specs.Plans.{Survey, survey_plan, quick_design}
+use Rattle.smp_plan.specs.{Plans.{Survey, survey_plan, quick_design}, Reads.{Sees}, Stops.{Stop, Refused, content, or_fault}}
 use Rattle.smp_weights.specs.Sample.{sample_file}
-use Rattle.smp_app.specs.Drawn.{Drawn, tree_of, start_of, sections_of, covered, drawn_rows}
+use Rattle.smp_app.specs.{Drawn.{Drawn, tree_of, start_of, sections_of, covered, drawn_rows}, Deliveries.{Outputs, with_files}}
 use Rattle.smp_app.specs.Texts.{accepted_text, demo_text, draw_log, draw_sample, log_text, probabilities_text, report_text, sample_text, weighted_row}
 use Rattle.smp_plan.specs.Inputs.{Given, Held, FrameHeld, ReadDesign, design_stage, frame_stage, plan_stage}
 use Rattle.smp_cases.specs.Demo.{demo_design_text, demo_frame_text, demo_key}
-use Rattle.smp_plan.specs.Reads.{Sees}
 use Rattle.smp_app.specs.Commands.{DrawnFile, ByLog, ByOldLog, BySection, BySeed, Draws, Lists, Job, source_of, log_source, held_job, job_of, job_for, inputs_of, outputs_by, written_by}
 use Rattle.smp_app.specs.Commands as drawing
 use Rattle.smp_frac.specs.Faults.{◌>>=◌}
-use Rattle.smp_plan.specs.Stops.{Stop, Refused, content, or_fault}
 use Rattle.smp_app.specs.Verdict.{values_taken, values_left, no_words, drawn_at, drawn_of, drawn_by_tape, drawn_by_seed, alone, stratum_at, told_by, drawn_by_log, drawn_by_old_log, drawn_by_section, drawn_stage, outputs_stage}
-use Rattle.smp_app.specs.Deliveries.{Outputs, with_files}
-use Rattle.smp_app.specs.Draws.{IsDrawnAlone, IsDrawnBy, OldDiffers, RefusesLog, StratumDiffers, WholeDiffers}
+use Rattle.smp_app.specs.{Draws.{IsDrawnAlone, IsDrawnBy, OldDiffers, RefusesLog, StratumDiffers, WholeDiffers}, Reports.{IsReported}}
 use Rattle.smp_app.specs.Kept.Exact.{ExactSays, IsDrawFrom, IsDrawnOf, IsDrawnWhole, IsExact, IsExactFrom, IsExactRefusal, IsRefused, IsRefusedFrom}
 use Rattle.smp_app.specs.Answers.{Outside, Says, IsWork, Done}
-use Rattle.smp_app.specs.Reports.{IsReported}
 use Rattle.smp_app.specs.Headline.{IsAccepted, IsDrawnBySeed, IsDrawnByChance, IsReadFrame, IsReadPlan, IsExactDraw, IsReplayed, IsExactQuick, IsExactReplay, IsExactSection, IsExactList, IsExactMigration, IsExactDemo, IsRefusedLog, Ends, Headline}
 use Rattle.smp_plan.proofs.Steps.{sees_told}
-use Rattle.smp_app.proofs.Alone.{seats_long}
-use Rattle.smp_app.proofs.Cubes.{tells_balance}
-use Rattle.smp_app.proofs.Ends.{verdict_of}
-use Rattle.smp_app.proofs.Refusals.{stratum_is}
+use Rattle.smp_app.proofs.{Alone.{seats_long}, Cubes.{tells_balance}, Ends.{verdict_of}, Refusals.{stratum_is}, Joints.{exact_joint}}
 use Rattle.smp_app.proofs.PlansRead.{MadePlan, Planned, accepted_plan, made_plan, content_is, frame_accepted, frame_plan, ok_same, planned, read, read_is, read_once, read_plan, some_same, step}
-use Rattle.smp_app.proofs.Joints.{exact_joint}
 use Rattle.smp_app.proofs.Lists.{listed}
 
 -- ---- what is drawn

@@ -2,33 +2,23 @@
 use Rattle.std.proofs.Common.{◌≡◌, ℕ, ◌≤◌, true, List, length, Option, Some, None, Result, Ok, Err, refl, sym, ap, subst, inl, inr}
 use Rattle.std.specs.Prelude.{nat_lt, option_map}
 use Rattle.std.proofs.lemmas.Bool.{cases_Bool, ltb-false}
-use Rattle.smp_io.specs.Sink.{with_bytes}
-use Rattle.smp_io.specs.Store.{Files}
+use Rattle.smp_io.specs.{Sink.{with_bytes}, Store.{Files}}
 use Rattle.smp_frame.specs.declared.frame.Unit as unit
 use Rattle.smp_frame.specs.Frames.{frame_of}
 use Rattle.smp_twostage.specs.Plans.{CanBeDrawn}
 use Rattle.smp_strata.specs.Misfits.{misfit_of}
-use Rattle.smp_design.specs.Designs.{design_of}
-use Rattle.smp_design.specs.declared.design.Design.{Design}
-use Rattle.smp_design.specs.declared.design.Second.{Second}
-use Rattle.smp_design.specs.declared.method.Method.{Method}
-use Rattle.smp_design.specs.declared.method.Method.TheVariants.{Systematic}
-use Rattle.smp_prob.specs.declared.orders.Order.{Order}
-use Rattle.smp_prob.specs.declared.orders.Order.TheVariants.{Frame}
+use Rattle.smp_design.specs.{Designs.{design_of}, declared.design.Design.{Design}, declared.design.Second.{Second}}
+use Rattle.smp_design.specs.{declared.method.Method.{Method}, declared.method.Method.TheVariants.{Systematic}}
+use Rattle.smp_prob.specs.{declared.orders.Order.{Order}, declared.orders.Order.TheVariants.{Frame}}
 use Rattle.smp_joint.specs.JointRows.{IsSystematicPlan}
 use Rattle.smp_joint.proofs.PlanJoints.{has_joints as joints_hold}
-use Rattle.smp_words.specs.declared.command.DesignArguments.{DesignArguments}
+use Rattle.smp_words.specs.{declared.command.DesignArguments.{DesignArguments}, Words.{command_of}}
 use Rattle.smp_words.specs.declared.command.Command.TheVariants as commands
-use Rattle.smp_words.specs.Words.{command_of}
 use Rattle.smp_status.specs.declared.status.Status.TheVariants as status
 use Rattle.smp_status.specs.Codes.{design_status, frame_status}
-use Rattle.smp_plan.specs.Plans.{Survey, survey_plan}
-use Rattle.smp_app.specs.Texts.{joints_text}
+use Rattle.smp_plan.specs.{Plans.{Survey, survey_plan}, Stops.{Stop, Refused, content, or_fault}}
+use Rattle.smp_app.specs.{Texts.{joints_text}, Commands.{Lists, Job, job_of, job_for}, Answers.{Outside, Done}, Kept.Exact.{IsExact}}
 use Rattle.smp_plan.specs.Inputs.{HeldForJoint, FrameForJoint, ReadDesign, has_joints, most_joint_rows, unless_large, unless_no_joints, design_stage, frame_stage, plan_stage}
-use Rattle.smp_app.specs.Commands.{Lists, Job, job_of, job_for}
-use Rattle.smp_plan.specs.Stops.{Stop, Refused, content, or_fault}
-use Rattle.smp_app.specs.Answers.{Outside, Done}
-use Rattle.smp_app.specs.Kept.Exact.{IsExact}
 use Rattle.smp_app.specs.Headline.{IsExactJoint}
 use Rattle.smp_app.proofs.Lists.{listed}
 use Rattle.smp_app.proofs.PlansRead.{Designed, Planned, content_is, frame_accepted, frame_plan, plan_is, read_is, read_plan, step}

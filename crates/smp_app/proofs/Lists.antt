@@ -1,17 +1,12 @@
 -- A command that lists a plan, and ended well.
 use Rattle.std.proofs.Common.{◌≡◌, ℕ, List, [], Some, Ok, refl, sym, ap, subst, ◌∙◌}
 use Rattle.std.specs.Prelude.{option_map}
-use Rattle.smp_io.specs.Sink.{with_bytes}
-use Rattle.smp_io.specs.Store.{Files}
-use Rattle.smp_plan.specs.Plans.{Survey}
-use Rattle.smp_plan.specs.Inputs.{DesignSource, FrameSource, plan_stage}
+use Rattle.smp_io.specs.{Sink.{with_bytes}, Store.{Files}}
+use Rattle.smp_plan.specs.{Plans.{Survey}, Inputs.{DesignSource, FrameSource, plan_stage}}
 use Rattle.smp_plan.proofs.Steps.{sees_told}
-use Rattle.smp_app.specs.Commands.{Lists, Job, inputs_of, job_for}
-use Rattle.smp_app.specs.Verdict.{outputs_stage}
-use Rattle.smp_app.specs.Deliveries.{Outputs, with_files}
+use Rattle.smp_app.specs.{Commands.{Lists, Job, inputs_of, job_for}, Verdict.{outputs_stage}, Deliveries.{Outputs, with_files}}
 use Rattle.smp_app.specs.Answers.{Outside, IsWork, Done}
-use Rattle.smp_app.proofs.Ends.{verdict_of}
-use Rattle.smp_app.proofs.PlansRead.{ok_same, some_same}
+use Rattle.smp_app.proofs.{Ends.{verdict_of}, PlansRead.{ok_same, some_same}}
 
 -- what it puts, and what becomes of the files
 module _ (text : Survey → List ℕ) (design : DesignSource) (frame : FrameSource) (fs : Files) (before now : Outside) (words : List (List ℕ)) where

@@ -3,21 +3,14 @@ use Rattle.std.proofs.Common.{◌≡◌, ℕ, List, Option, Some, None, Result, 
 use Rattle.smp_io.specs.Store.{Files}
 use Rattle.smp_frame.specs.declared.frame.Unit as unit
 use Rattle.smp_frame.specs.Frames.{frame_of}
-use Rattle.smp_strata.specs.Misfits.{misfit_of}
-use Rattle.smp_strata.specs.declared.misfit.Misfit.{Misfit}
-use Rattle.smp_design.specs.Designs.{design_of}
-use Rattle.smp_design.specs.declared.design.Design.{Design}
-use Rattle.smp_design.specs.declared.fault.DesignFault.{DesignFault}
+use Rattle.smp_strata.specs.{Misfits.{misfit_of}, declared.misfit.Misfit.{Misfit}}
+use Rattle.smp_design.specs.{Designs.{design_of}, declared.design.Design.{Design}, declared.fault.DesignFault.{DesignFault}}
 use Rattle.smp_log.specs.Heads.{head_of}
-use Rattle.smp_status.specs.declared.status.Status.{Status}
-use Rattle.smp_status.specs.Codes.{design_status, frame_status}
-use Rattle.smp_plan.specs.Plans.{Survey}
+use Rattle.smp_status.specs.{declared.status.Status.{Status}, Codes.{design_status, frame_status}}
+use Rattle.smp_plan.specs.{Plans.{Survey}, Stops.{Stop, content, or_fault}}
 use Rattle.smp_plan.specs.Inputs.{Held, FrameHeld, FrameMade, Made, ReadDesign, unless_large, unless_misfit, design_stage, frame_stage, plan_of, plan_stage}
-use Rattle.smp_app.specs.Commands.{Job}
+use Rattle.smp_app.specs.{Commands.{Job}, Deliveries.{Outputs}, Headline.{IsAccepted, IsReadFrame, IsReadPlan}}
 use Rattle.smp_frac.specs.Faults.{◌>>=◌}
-use Rattle.smp_plan.specs.Stops.{Stop, content, or_fault}
-use Rattle.smp_app.specs.Deliveries.{Outputs}
-use Rattle.smp_app.specs.Headline.{IsAccepted, IsReadFrame, IsReadPlan}
 
 -- ---- what a stage that goes on has read
 

@@ -3,43 +3,27 @@ use Rattle.std.proofs.Common.{◌≡◌, ℕ, ◌+◌, ◌-◌, length, inl, inr
 use Rattle.std.specs.Prelude.{IfErr, nat_le}
 use Rattle.std.proofs.lemmas.Bool.{cases_Bool}
 use Rattle.smp_io.specs.Store.{Files}
-use Rattle.smp_split.specs.Paths.{Entry}
+use Rattle.smp_split.specs.{Paths.{Entry}, Stages.{Progress}}
 use Rattle.smp_methods.specs.declared.any.AnyState.{AnyState}
-use Rattle.smp_split.specs.Stages.{Progress}
-use Rattle.smp_log.specs.Answers.{IsAnswer}
-use Rattle.smp_log.specs.Genuine.{IsGenuine}
-use Rattle.smp_log.specs.Heads.{IsHead}
-use Rattle.smp_log.specs.LoneSections.{IsSectionAnswer, section_told}
-use Rattle.smp_log.specs.SectionLogs.{IsAnyGenuine}
-use Rattle.smp_log.specs.Told.{path_told}
-use Rattle.smp_log.proofs.Answered.{exact_reading}
-use Rattle.smp_log.proofs.LoneExact.{exact_section}
-use Rattle.smp_log.proofs.TwoVersions.{exact_any}
+use Rattle.smp_log.specs.{Answers.{IsAnswer}, Genuine.{IsGenuine}, Heads.{IsHead}, LoneSections.{IsSectionAnswer, section_told}}
+use Rattle.smp_log.specs.{SectionLogs.{IsAnyGenuine}, Told.{path_told}}
+use Rattle.smp_log.proofs.{Answered.{exact_reading}, LoneExact.{exact_section}, TwoVersions.{exact_any}}
 use Rattle.smp_twostage.specs.Selections.{BelongsToCovered, BelongsToWhole, Coverage, all_of, covered_start, covered_tree, section_count}
 use Rattle.smp_twostage.specs.Laws.Wholes.{covered_lawful, strata_sectioned, whole_lawful}
-use Rattle.smp_status.specs.declared.status.Status.{Status}
+use Rattle.smp_status.specs.{declared.status.Status.{Status}, Codes.{design_status, frame_status}}
 use Rattle.smp_status.specs.declared.status.Status.TheVariants as status
-use Rattle.smp_plan.specs.Plans.{Survey, survey_plan}
+use Rattle.smp_plan.specs.{Plans.{Survey, survey_plan}, Reads.{Follows, result_view}, Stops.{Stop, Refused, content, or_fault}}
 use Rattle.smp_plan.specs.Inputs.{DesignSource, Given, Held, HeldForJoint, Made, FrameSource, FrameHeld, FrameForJoint, FrameMade, ReadDesign, design_stage, frame_content, frame_stage, has_joints, is_large, plan_stage, unless_large, unless_misfit, unless_no_joints}
-use Rattle.smp_design.specs.Designs.{design_of}
-use Rattle.smp_design.specs.declared.fault.DesignFault.{DesignFault}
+use Rattle.smp_design.specs.{Designs.{design_of}, declared.fault.DesignFault.{DesignFault}}
 use Rattle.smp_design.specs.declared.fault.DesignFault.TheVariants as design_fault
-use Rattle.smp_frame.specs.Frames.{frame_of}
+use Rattle.smp_frame.specs.{Frames.{frame_of}, declared.fault.FrameFault.{FrameFault}}
 use Rattle.smp_frame.specs.declared.frame.Unit as unit
-use Rattle.smp_frame.specs.declared.fault.FrameFault.{FrameFault}
 use Rattle.smp_frame.specs.declared.fault.FrameFault.TheVariants as frame_fault
-use Rattle.smp_strata.specs.Misfits.{misfit_of}
-use Rattle.smp_strata.specs.declared.misfit.Misfit.{Misfit}
-use Rattle.smp_status.specs.Codes.{design_status, frame_status}
-use Rattle.smp_plan.specs.Reads.{Follows, result_view}
+use Rattle.smp_strata.specs.{Misfits.{misfit_of}, declared.misfit.Misfit.{Misfit}}
 use Rattle.smp_frac.specs.Faults.{◌>>=◌}
-use Rattle.smp_plan.specs.Stops.{Stop, Refused, content, or_fault}
-use Rattle.smp_app.specs.declared.selection.Taken.{Taken}
+use Rattle.smp_app.specs.{declared.selection.Taken.{Taken}, Kept.Stages.{DiffersTaken, drawn_by_taken, only_of}, Commands.{Source}}
 use Rattle.smp_app.specs.declared.selection.Taken.TheVariants as takes
-use Rattle.smp_app.specs.Kept.Stages.{DiffersTaken, drawn_by_taken, only_of}
-use Rattle.smp_app.specs.Drawn.{Drawn, tree_of, start_of, sections_of}
-use Rattle.smp_app.specs.Commands.{Source}
-use Rattle.smp_app.specs.Draws.{OldDiffers, RefusesLog, StratumDiffers, WholeDiffers}
+use Rattle.smp_app.specs.{Drawn.{Drawn, tree_of, start_of, sections_of}, Draws.{OldDiffers, RefusesLog, StratumDiffers, WholeDiffers}}
 use Rattle.smp_app.specs.Kept.Exact.{IfLine, IsRefusedAt, IsRefusedBy}
 use Rattle.smp_app.specs.Verdict.{alone, drawn_by_log, drawn_by_old_log, drawn_by_section, stratum_at, told_by}
 

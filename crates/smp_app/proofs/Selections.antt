@@ -1,64 +1,38 @@
 -- What is selected by a tape or by a seed is what the verdict draws, with the requested probabilities.
 use Rattle.std.proofs.Common.{◌≡◌, ℕ, ◌<◌, Bool, List, length, Option, Some, None, Result, Ok, Err, true, false, refl, sym, ap, subst, ◌∙◌, arith, inr}
-use Rattle.std.specs.Prelude.{◌^◌, IfOk, IfSome, OnOk, is_some, option_map}
-use Rattle.std.specs.List.{count_by, range_with_len, slice_get}
-use Rattle.std.proofs.lemmas.List.Elements.{All-get_or}
-use Rattle.std.proofs.lemmas.Option.{slice_get_within, get_or_from_slice_get}
-use Rattle.smp_frac.specs.Bounds.{IsAround}
-use Rattle.smp_frac.specs.Fractions.{Fraction, Same, integer, sum_below}
-use Rattle.smp_frac.proofs.Around.{around_same}
-use Rattle.smp_split.specs.Means.{mean, inclusion_probability}
-use Rattle.smp_frac.proofs.Arithmetic.{same_sym, same_trans}
-use Rattle.smp_prob.specs.declared.requests.Request.{Request}
-use Rattle.smp_prob.specs.Given.{expected_size}
+use Rattle.std.specs.{Prelude.{◌^◌, IfOk, IfSome, OnOk, is_some, option_map}, List.{count_by, range_with_len, slice_get}}
+use Rattle.std.proofs.{lemmas.List.Elements.{All-get_or}, lemmas.Option.{slice_get_within, get_or_from_slice_get}}
+use Rattle.smp_frac.specs.{Bounds.{IsAround}, Fractions.{Fraction, Same, integer, sum_below}}
+use Rattle.smp_frac.proofs.{Around.{around_same}, Arithmetic.{same_sym, same_trans}}
+use Rattle.smp_split.specs.{Means.{mean, inclusion_probability}, Paths.{Entry, Leads}, Laws.Steps.{reached_lawful}, Sectioning.{Sectioning}}
+use Rattle.smp_prob.specs.{declared.requests.Request.{Request}, Given.{expected_size}}
 use Rattle.smp_design.specs.Words.{balances, draws_together}
-use Rattle.smp_tape.specs.Sources.{Source}
-use Rattle.smp_tape.specs.declared.draws.DrawFault.{DrawFault}
-use Rattle.smp_log.specs.Answers.{AnswersAs}
-use Rattle.smp_log.specs.Genuine.{DiffersAt, IsFullPath}
-use Rattle.smp_log.specs.declared.fault.ReplayFault.{ReplayFault}
+use Rattle.smp_tape.specs.{Sources.{Source}, declared.draws.DrawFault.{DrawFault}}
+use Rattle.smp_log.specs.{Answers.{AnswersAs}, Genuine.{DiffersAt, IsFullPath}, declared.fault.ReplayFault.{ReplayFault}}
 use Rattle.smp_log.specs.declared.fault.ReplayFault.TheVariants as replays
 use Rattle.smp_log.specs.SectionLogs.{ArePlaced, IsAnyGenuine, RiseFrom, placed, sectioned_log_text, sections_text, steps_of}
 use Rattle.smp_log.proofs.Placed.{placed_as, placed_rise}
-use Rattle.smp_log.specs.declared.fault.LogFault.{LogFault}
-use Rattle.smp_log.specs.declared.fault.LogFault.TheVariants.{Differs}
-use Rattle.smp_split.specs.Paths.{Entry, Leads}
-use Rattle.smp_split.specs.Runs.{Outcome, run, leaf, stopped, IsLeaf, IsStop, IsOutcome}
+use Rattle.smp_log.specs.{declared.fault.LogFault.{LogFault}, declared.fault.LogFault.TheVariants.{Differs}}
+use Rattle.smp_split.specs.{Runs.{Outcome, run, leaf, stopped, IsLeaf, IsStop, IsOutcome}, Trees.{Tree, weight_sum}, Stages.{Progress}}
 use Rattle.smp_split.proofs.Runs.{run_is}
-use Rattle.smp_split.specs.Laws.Steps.{reached_lawful}
-use Rattle.smp_split.specs.Trees.{Tree, weight_sum}
-use Rattle.smp_split.specs.Sectioning.{Sectioning}
 use Rattle.smp_design.specs.declared.design.Second as second
 use Rattle.smp_methods.specs.declared.any.AnyState.{AnyState}
-use Rattle.smp_split.specs.Stages.{Progress}
-use Rattle.smp_strata.specs.Draws.{AreAsked, IsFor, SecondDraws, expected_firsts}
-use Rattle.smp_strata.specs.Plans.{Plan, first_probs}
-use Rattle.smp_strata.specs.declared.strata.FirstUnit.{FirstUnit}
-use Rattle.smp_strata.specs.declared.strata.Stratum.{Stratum}
+use Rattle.smp_strata.specs.{Draws.{AreAsked, IsFor, SecondDraws, expected_firsts}, Plans.{Plan, first_probs}}
+use Rattle.smp_strata.specs.{declared.strata.FirstUnit.{FirstUnit}, declared.strata.Stratum.{Stratum}}
 use Rattle.smp_twostage.specs.Selections as selections
 use Rattle.smp_twostage.specs.Selections.{BelongsToCovered, BelongsToWhole, Coverage, all_of, covered_start, covered_tree, one_of, place_of, section_count, strata_sections, whole_tree}
-use Rattle.smp_twostage.specs.Kept.Sides.{section_count_by}
-use Rattle.smp_twostage.specs.Covered.{StartsAlone}
-use Rattle.smp_twostage.specs.Plans.{CanBeDrawn}
+use Rattle.smp_twostage.specs.{Kept.Sides.{section_count_by}, Covered.{StartsAlone}, Plans.{CanBeDrawn}, Laws.Places.{place_is_seat}}
 use Rattle.smp_twostage.proofs.Wholes.{whole_starts}
 use Rattle.smp_twostage.specs.Starts.{StartsWhole, covered_first, known, row_fraction, second_selected, weighted}
-use Rattle.smp_twostage.specs.Laws.Places.{place_is_seat}
-use Rattle.smp_twostage.specs.Laws.Staged.{seconds_in}
-use Rattle.smp_twostage.specs.Laws.Wholes.{covered_lawful, strata_sectioned, whole_lawful}
-use Rattle.smp_plan.specs.declared.plan.FramePlan.{FramePlan}
-use Rattle.smp_plan.specs.Planned.{IsPlanned, plan_view}
+use Rattle.smp_twostage.specs.{Laws.Staged.{seconds_in}, Laws.Wholes.{covered_lawful, strata_sectioned, whole_lawful}}
+use Rattle.smp_plan.specs.{declared.plan.FramePlan.{FramePlan}, Planned.{IsPlanned, plan_view}, Stops.{Stop}}
 use Rattle.smp_twostage.specs.declared.whole.StartedWhole.{StartedWhole}
-use Rattle.smp_app.specs.declared.selection.Taken.{Taken}
+use Rattle.smp_app.specs.{declared.selection.Taken.{Taken}, Draws.{IsDrawnBy, HasProbabilities}, Drawn.{tree_of, start_of, Drawn, covered}}
 use Rattle.smp_app.specs.declared.selection.Taken.TheVariants as takes
 use Rattle.smp_app.specs.Kept.Stages.{EndsAsTold, HasStratum, IsStart, IsWalked, Lines, RefusedAt, StartsOf, drawn_by_taken, end_told, lines_of, only_of, path_by, reading_by}
-use Rattle.smp_app.specs.Draws.{IsDrawnBy, HasProbabilities}
-use Rattle.smp_app.specs.Kept.Exact.{IsDrawnOf, IsDrawnWhole, IsListed}
+use Rattle.smp_app.specs.{Kept.Exact.{IsDrawnOf, IsDrawnWhole, IsListed}, Texts.{log_text}, Verdict.{alone, told_by}}
 use Rattle.smp_plan.specs.Plans.{Survey, survey_plan, row_probability}
-use Rattle.smp_app.specs.Drawn.{tree_of, start_of, Drawn, covered}
-use Rattle.smp_app.specs.Texts.{log_text}
 use Rattle.smp_app.proofs.Cubes.{keeps_balance}
-use Rattle.smp_plan.specs.Stops.{Stop}
-use Rattle.smp_app.specs.Verdict.{alone, told_by}
 
 -- the entries that were told
 pub told_is : {path lines : List Entry} → Some lines ≡ Some path → lines ≡ path

@@ -1,15 +1,11 @@
 -- What the work of a job draws and writes.
 use Rattle.std.proofs.Common.{◌≡◌, List, [], ◌∷◌, map, Result, Ok, Err, refl, ap}
 use Rattle.smp_io.specs.Store.{Files}
-use Rattle.smp_plan.specs.Plans.{Survey}
-use Rattle.smp_app.specs.Drawn.{Drawn}
-use Rattle.smp_plan.specs.Inputs.{plan_stage}
-use Rattle.smp_app.specs.Commands.{DrawnFile, Job, written_by}
+use Rattle.smp_plan.specs.{Plans.{Survey}, Inputs.{plan_stage}, Reads.{Follows}}
+use Rattle.smp_app.specs.{Drawn.{Drawn}, Commands.{DrawnFile, Job, written_by}, Deliveries.{names_of}}
 use Rattle.smp_status.specs.declared.status.Status.{Status}
 use Rattle.smp_app.specs.Kept.Exact.{EndsExact, EndsExactFrom, IsExactRefusal, IsRefused, IsRefusedFrom}
-use Rattle.smp_plan.specs.Reads.{Follows}
 use Rattle.smp_app.proofs.Refusals.{line_more, plan_line}
-use Rattle.smp_app.specs.Deliveries.{names_of}
 
 -- a job whose plan is refused names no line
 pub plan_refused : (job : Job) (fs : Files) (error : Status) → Follows (Err error) (plan_stage job.design job.frame fs) → IsExactRefusal job error fs

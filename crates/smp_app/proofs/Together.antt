@@ -1,49 +1,29 @@
 -- What the report tells of all strata that are drawn together: each first stage unit is a row of the frame.
 use Rattle.std.proofs.Common.{◌≡◌, ℕ, zero, suc, ◌+◌, ◌-◌, ◌<◌, Bool, true, List, [], ◌∷◌, length, map, get_or, Option, Some, None, All, arith, refl, sym, ap, ap₂, subst, ◌∙◌}
-use Rattle.std.specs.Prelude.{option_map, option_and_then, unwrap_or}
-use Rattle.std.specs.List.{range_with_len, slice_get}
-use Rattle.std.proofs.lemmas.List.{get_or-map, length-map}
-use Rattle.std.proofs.lemmas.Simd.{map-map}
-use Rattle.std.proofs.lemmas.List.Elements.{All-filter, All-get_or, All-map}
+use Rattle.std.specs.{Prelude.{option_map, option_and_then, unwrap_or}, List.{range_with_len, slice_get}}
+use Rattle.std.proofs.{lemmas.List.{get_or-map, length-map}, lemmas.Simd.{map-map}, lemmas.List.Elements.{All-filter, All-get_or, All-map}}
 use Rattle.std.proofs.lemmas.Option.{get_or_from_slice_get, slice_get_within}
 use Rattle.smp_frac.specs.LowestTerms.{lowest_terms}
-use Rattle.smp_prob.specs.Requests.{IsRequest}
-use Rattle.smp_prob.specs.Inclusions.{asked_fraction, inclusion, is_taken}
+use Rattle.smp_prob.specs.{Requests.{IsRequest}, Inclusions.{asked_fraction, inclusion, is_taken}}
 use Rattle.smp_moves.specs.Cubes.{values_in}
-use Rattle.smp_stratcube.specs.States.{Balancing}
-use Rattle.smp_stratcube.specs.Values.{is_one}
-use Rattle.smp_twostage.specs.Strata.{StratumUnits, values_of}
+use Rattle.smp_stratcube.specs.{States.{Balancing}, Values.{is_one}}
+use Rattle.smp_twostage.specs.{Strata.{StratumUnits, values_of}, Cubes.{IsDrawnTogether, balancing, frame_of}, Plans.{CanBeDrawn}}
 use Rattle.smp_twostage.specs.DrawnLines as balance
 use Rattle.smp_twostage.specs.Reports.{AreUnitRows, TellsColumn, TellsRows, UnitRows, free_before as units_before, no_stratum, stratum_at}
-use Rattle.smp_twostage.proofs.RowReports.{each_row_tells}
-use Rattle.smp_design.specs.Words.{draws_together}
-use Rattle.smp_design.specs.declared.design.Design.{Design}
-use Rattle.smp_design.specs.declared.design.Second.{Second}
+use Rattle.smp_twostage.proofs.{RowReports.{each_row_tells}, Columns.{is_planned}, DrawnTogether.{selected_at}, OverAll.{free_before}}
+use Rattle.smp_design.specs.{Words.{draws_together}, declared.design.Design.{Design}, declared.design.Second.{Second}}
 use Rattle.smp_methods.specs.declared.any.AnyState.{AnyState}
 use Rattle.smp_methods.specs.declared.any.AnyState.TheVariants as states
-use Rattle.smp_split.specs.Laws.Reads.{some_within}
+use Rattle.smp_split.specs.{Laws.Reads.{some_within}, Paths.{Entry}}
 use Rattle.smp_frame.specs.declared.frame.Unit as frame
-use Rattle.smp_strata.specs.Clusters.{clusters, clusters_in, strata_numbers}
+use Rattle.smp_strata.specs.{Clusters.{clusters, clusters_in, strata_numbers}, Plans.{Plan, first_of, stratum_of}, Rows.{rows_of}}
 use Rattle.smp_strata.proofs.Ranges.{map_range_ext}
-use Rattle.smp_strata.specs.Plans.{Plan, first_of, stratum_of}
-use Rattle.smp_strata.specs.Rows.{rows_of}
-use Rattle.smp_strata.specs.Seats.{IsSeat, first_at, first_fraction, unit_fraction}
-use Rattle.smp_strata.specs.declared.strata.FirstUnit.{FirstUnit}
-use Rattle.smp_strata.specs.declared.strata.Seat.{Seat}
-use Rattle.smp_strata.specs.declared.strata.Stratum.{Stratum}
-use Rattle.smp_twostage.specs.Cubes.{IsDrawnTogether, balancing, frame_of}
-use Rattle.smp_twostage.specs.Lines.{seat_values, told, told_seats}
-use Rattle.smp_twostage.specs.Plans.{CanBeDrawn}
-use Rattle.smp_twostage.specs.Selections.{all_of, place_of, units_at}
-use Rattle.smp_twostage.specs.Starts.{covered_first}
-use Rattle.smp_twostage.specs.Laws.Places.{StandsIn, place_is_seat}
-use Rattle.smp_twostage.specs.Laws.Staged.{place_stands}
-use Rattle.smp_twostage.proofs.Columns.{is_planned}
-use Rattle.smp_twostage.proofs.DrawnTogether.{selected_at}
-use Rattle.smp_twostage.proofs.OverAll.{free_before}
+use Rattle.smp_strata.specs.{Seats.{IsSeat, first_at, first_fraction, unit_fraction}, declared.strata.FirstUnit.{FirstUnit}}
+use Rattle.smp_strata.specs.{declared.strata.Seat.{Seat}, declared.strata.Stratum.{Stratum}}
+use Rattle.smp_twostage.specs.{Lines.{seat_values, told, told_seats}, Selections.{all_of, place_of, units_at}, Starts.{covered_first}}
+use Rattle.smp_twostage.specs.{Laws.Places.{StandsIn, place_is_seat}, Laws.Staged.{place_stands}}
 use Rattle.smp_twostage.proofs.StartsBy.{first_so}
 use Rattle.smp_plan.specs.Plans.{Survey, survey_plan}
-use Rattle.smp_split.specs.Paths.{Entry}
 
 -- ---- the rows of a plan in one stage
 

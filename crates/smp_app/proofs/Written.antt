@@ -1,35 +1,20 @@
 -- Texts that are written row by row.
 use Rattle.std.proofs.Common.{◌≡◌, ℕ, ◌+◌, ◌-◌, ◌*◌, ◌<◌, ◌≤◌, suc, zero, Bool, cond, true, false, ℤ, pos, negsuc, ◌*ℤ◌, List, [], ◌∷◌, ◌++◌, length, get_or, drop, Option, Some, Result, Ok, Err, IfOk, arith, sym, ap, subst, ◌∙◌, true≢false}
-use Rattle.std.specs.List.{count_by, flat_map, range_with_len}
-use Rattle.std.specs.Prelude.{nat_eq, option_map}
-use Rattle.std.proofs.lemmas.Int.{ints}
-use Rattle.std.proofs.lemmas.List.Sums.{sum_by-cons}
-use Rattle.std.proofs.lemmas.List.{get_or-map}
-use Rattle.smp_frac.specs.Fractions.{Same, inverse}
-use Rattle.smp_frac.proofs.Arithmetic.{same_trans, numerator_positive, inverse_same}
-use Rattle.smp_frac.specs.declared.fractions.Frac.{Frac}
-use Rattle.smp_frac.specs.Exact.{fraction, fraction_text}
-use Rattle.smp_frac.proofs.Texts.{fraction_text-same}
+use Rattle.std.specs.{List.{count_by, flat_map, range_with_len}, Prelude.{nat_eq, option_map}}
+use Rattle.std.proofs.{lemmas.Int.{ints}, lemmas.List.Sums.{sum_by-cons}, lemmas.List.{get_or-map}}
+use Rattle.smp_frac.specs.{Fractions.{Same, inverse}, declared.fractions.Frac.{Frac}, Exact.{fraction, fraction_text}}
+use Rattle.smp_frac.proofs.{Arithmetic.{same_trans, numerator_positive, inverse_same}, Texts.{fraction_text-same}}
 use Rattle.smp_design.specs.Words.{draws_together}
 use Rattle.smp_frame.specs.declared.frame.Unit as unit
-use Rattle.smp_strata.specs.Plans.{Plan}
-use Rattle.smp_strata.specs.Seats.{IsSeat, seat_fraction}
-use Rattle.smp_strata.specs.declared.strata.Seat.{Seat}
-use Rattle.smp_twostage.specs.Selections.{Coverage, covered_seats, covered_tree, is_of_section, place_of}
-use Rattle.smp_twostage.specs.Kept.Sides.{is_in_section}
-use Rattle.smp_twostage.specs.Starts.{is_positive, row_fraction}
-use Rattle.smp_twostage.specs.Laws.Places.{place_is_seat}
-use Rattle.smp_twostage.proofs.Numbers.{passing}
-use Rattle.smp_weights.specs.Rows.{row}
-use Rattle.smp_weights.specs.Sample.{sample_row}
+use Rattle.smp_strata.specs.{Plans.{Plan}, Seats.{IsSeat, seat_fraction}, declared.strata.Seat.{Seat}}
+use Rattle.smp_twostage.specs.{Selections.{Coverage, covered_seats, covered_tree, is_of_section, place_of}, Kept.Sides.{is_in_section}}
+use Rattle.smp_twostage.specs.{Starts.{is_positive, row_fraction}, Laws.Places.{place_is_seat}}
+use Rattle.smp_twostage.proofs.{Numbers.{passing}, Positive.{covered_positive}}
+use Rattle.smp_weights.specs.{Rows.{row}, Sample.{sample_row}}
 use Rattle.smp_joint.proofs.RowTexts.{all_rows, answer_is}
-use Rattle.smp_plan.specs.declared.plan.FramePlan.{FramePlan}
-use Rattle.smp_app.specs.declared.selection.Selection.{Selection}
-use Rattle.smp_plan.specs.Plans.{Survey, survey_plan, row_id, row_probability}
-use Rattle.smp_app.specs.Drawn.{covered, drawn_rows}
+use Rattle.smp_plan.specs.{declared.plan.FramePlan.{FramePlan}, Plans.{Survey, survey_plan, row_id, row_probability}}
+use Rattle.smp_app.specs.{declared.selection.Selection.{Selection}, Drawn.{covered, drawn_rows}, Kept.Stages.{IsSelection, selection_view}}
 use Rattle.smp_plan.specs.Planned.{IsPlanned, plan_view}
-use Rattle.smp_app.specs.Kept.Stages.{IsSelection, selection_view}
-use Rattle.smp_twostage.proofs.Positive.{covered_positive}
 use Rattle.smp_app.proofs.Alone.{seats_long}
 
 pub if_ok : {T E : Type 0} (r : Result T E) (P Q : T → Type 0) → ((x : T) → P x → Q x) → IfOk r P → IfOk r Q

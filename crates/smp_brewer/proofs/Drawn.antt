@@ -1,19 +1,13 @@
 -- Between two offers the values add up to the units that are taken and those still to be drawn.
 use Rattle.std.proofs.Common.{◌≡◌, ℕ, zero, suc, ◌+◌, ◌*◌, ◌<◌, ◌≤◌, max, pos, ◌*ℤ◌, cond, List, [], ◌∷◌, length, map, get_or, arith, refl, sym, ap, ◌∙◌, inl, inr}
 use Rattle.std.specs.List.{sum, count_by}
-use Rattle.std.proofs.lemmas.Bool.{cases_Bool, cases_eq, eqb-true}
-use Rattle.std.proofs.lemmas.List.{get_or-map, length-map}
-use Rattle.std.proofs.lemmas.List.Sums.{sum_by-cons}
+use Rattle.std.proofs.{lemmas.Bool.{cases_Bool, cases_eq, eqb-true}, lemmas.List.{get_or-map, length-map}, lemmas.List.Sums.{sum_by-cons}}
 use Rattle.smp_frac.specs.Fractions.{Same, over}
-use Rattle.smp_frac.proofs.Arithmetic.{cancel, same_sym}
-use Rattle.smp_frac.proofs.Over.{over_one}
+use Rattle.smp_frac.proofs.{Arithmetic.{cancel, same_sym}, Over.{over_one}}
 use Rattle.smp_split.specs.Counts.{AddsUp}
 use Rattle.smp_split.proofs.Sums.{list_adds_up, list_adds}
-use Rattle.smp_brewer.specs.Sizes.{marks_taken}
-use Rattle.smp_brewer.specs.declared.offers.Offers.{Offers}
+use Rattle.smp_brewer.specs.{Sizes.{marks_taken}, declared.offers.Offers.{Offers}, Kept.Sizes.{share_of}, Laws.Sums.{sum-cons}}
 use Rattle.smp_brewer.specs.Brewer.{offering, total, size_of, offering_value, brewing_tree}
-use Rattle.smp_brewer.specs.Kept.Sizes.{share_of}
-use Rattle.smp_brewer.specs.Laws.Sums.{sum-cons}
 
 -- the units that are taken and those still to be drawn are n
 abbrev pub DrawsInAll : ℕ → Offers → Type 0

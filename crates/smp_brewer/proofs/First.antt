@@ -1,14 +1,9 @@
 -- The offers of a request are in range.
-use Rattle.std.proofs.Common.{◌≡◌, ℕ, ◌*◌, ◌<◌, ◌≤◌, length, arith, refl, ap, inl, inr}
+use Rattle.std.proofs.{Common.{◌≡◌, ℕ, ◌*◌, ◌<◌, ◌≤◌, length, arith, refl, ap, inl, inr}, lemmas.Bool.{cases_eq, cases_lt, eq-eqb, ne_eqb}}
 use Rattle.std.specs.List.{sum}
-use Rattle.std.proofs.lemmas.Bool.{cases_eq, cases_lt, eq-eqb, ne_eqb}
 use Rattle.std.proofs.lemmas.List.{get_or_past}
-use Rattle.smp_prob.specs.declared.requests.Request.{Request}
-use Rattle.smp_prob.specs.Requests.{IsRequest}
-use Rattle.smp_prob.specs.Shares.{draws_of}
-use Rattle.smp_brewer.specs.declared.offers.Offers.{Offers}
-use Rattle.smp_brewer.specs.Brewer.{IsBrewing, size_of, total}
-use Rattle.smp_brewer.specs.Method.{started}
+use Rattle.smp_prob.specs.{declared.requests.Request.{Request}, Requests.{IsRequest}, Shares.{draws_of}}
+use Rattle.smp_brewer.specs.{declared.offers.Offers.{Offers}, Brewer.{IsBrewing, size_of, total}, Method.{started}}
 
 module _ (request : Request) (is : IsRequest request) (whole : sum request.shape ≡ request.total) where
   abbrev asked : Offers

@@ -3,10 +3,8 @@ use Rattle.std.proofs.Common.{◌≡◌, ℕ, suc, ◌+◌, ◌-◌, ◌<◌, �
 use Rattle.std.specs.List.{sum}
 use Rattle.std.proofs.lemmas.Bool.{cases_Bool, eqb-true, ltb-false, le-ltb}
 use Rattle.smp_split.specs.Trees.{weight_sum, picked}
-use Rattle.smp_brewer.specs.declared.offers.Offers.{Offers}
+use Rattle.smp_brewer.specs.{declared.offers.Offers.{Offers}, Kept.Sizes.{passing}, Laws.Sums.{sum-cons}}
 use Rattle.smp_brewer.specs.Brewer.{Brewing, offering, offered, total, offer_parts, is_spent, brewing_tree}
-use Rattle.smp_brewer.specs.Kept.Sizes.{passing}
-use Rattle.smp_brewer.specs.Laws.Sums.{sum-cons}
 use Rattle.smp_brewer.specs.Laws.Offers.{offers_from, offers_are, weight_sum-offers}
 
 picked-offers : (default : Brewing) (o : Offers) (unit : ℕ) (zs : List ℕ) (draw : ℕ) → draw < sum zs → picked default (offers_from o unit zs) draw ≡ offered o (unit + passing zs draw)

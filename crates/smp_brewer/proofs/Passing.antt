@@ -1,6 +1,5 @@
 -- The unit at which the cumulated sizes pass a draw.
-use Rattle.std.proofs.Common.{◌≡◌, ℕ, zero, suc, ◌+◌, ◌-◌, ◌<◌, ◌≤◌, List, [], ◌∷◌, get_or, ap, refl, arith}
-use Rattle.std.proofs.lemmas.Bool.{lt-ltb, le-ltb}
+use Rattle.std.proofs.{Common.{◌≡◌, ℕ, zero, suc, ◌+◌, ◌-◌, ◌<◌, ◌≤◌, List, [], ◌∷◌, get_or, ap, refl, arith}, lemmas.Bool.{lt-ltb, le-ltb}}
 use Rattle.smp_places.specs.Amounts.{sum_before}
 use Rattle.smp_brewer.specs.Kept.Sizes.{passing}
 

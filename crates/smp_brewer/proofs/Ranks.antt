@@ -1,9 +1,7 @@
 -- The units in rising order of their sizes, and the last of them that is open.
 use Rattle.std.proofs.Common.{◌≡◌, ◌≢◌, ℕ, suc, ◌-◌, ◌<◌, ◌≤◌, List, [], ◌∷◌, length, get_or, set, length-set, inl, inr, arith}
-use Rattle.std.specs.List.{range_with_len}
-use Rattle.std.specs.List.Sorted.{IsPermutation}
-use Rattle.std.proofs.lemmas.Bool.{cases_eq, cases_lt}
-use Rattle.std.proofs.lemmas.List.{get_or-set_same, get_or-set_other, get_or_past}
+use Rattle.std.specs.{List.{range_with_len}, List.Sorted.{IsPermutation}}
+use Rattle.std.proofs.{lemmas.Bool.{cases_eq, cases_lt}, lemmas.List.{get_or-set_same, get_or-set_other, get_or_past}}
 use Rattle.smp_brewer.specs.Kept.Orders.{IsRanked}
 use Rattle.smp_values.specs.Largest.{largest_of}
 use Rattle.smp_values.proofs.Largest.{largest-at}

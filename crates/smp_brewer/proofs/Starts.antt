@@ -1,23 +1,15 @@
 -- A selection starts from the offers of a request, and from any that are in range.
 use Rattle.std.proofs.Common.{◌≡◌, ℕ, zero, suc, ◌*◌, ◌<◌, ◌≤◌, false, cond, List, [], ◌∷◌, length, get_or, arith, refl}
 use Rattle.std.specs.List.{sum, count_by}
-use Rattle.std.proofs.lemmas.Bool.{ne_eqb}
-use Rattle.std.proofs.lemmas.List.Sums.{sum_by-cons}
+use Rattle.std.proofs.{lemmas.Bool.{ne_eqb}, lemmas.List.Sums.{sum_by-cons}}
 use Rattle.smp_frac.proofs.Arithmetic.{same_refl}
-use Rattle.smp_prob.specs.declared.requests.Request.{Request}
-use Rattle.smp_prob.specs.Requests.{IsRequest}
-use Rattle.smp_prob.specs.Inclusions.{free_fraction}
+use Rattle.smp_prob.specs.{declared.requests.Request.{Request}, Requests.{IsRequest}, Inclusions.{free_fraction}, Shares.{draws_of}}
 use Rattle.smp_split.specs.Methods.{Starts}
 use Rattle.smp_split.proofs.Methods.{starts}
 use Rattle.smp_values.specs.Starts.{IsRequested}
-use Rattle.smp_brewer.specs.Sizes.{marks_taken}
-use Rattle.smp_brewer.specs.declared.offers.Offers.{Offers}
-use Rattle.smp_brewer.specs.Brewer.{offering, brewing_tree, IsOffers}
-use Rattle.smp_brewer.specs.Laws.Answers.{some_left}
-use Rattle.smp_brewer.specs.Method.{method_of}
-use Rattle.smp_prob.specs.Shares.{draws_of}
-use Rattle.smp_brewer.proofs.Drawn.{offering_adds_up, offering_adds}
-use Rattle.smp_brewer.proofs.Counts.{leaf_count}
+use Rattle.smp_brewer.specs.{Sizes.{marks_taken}, declared.offers.Offers.{Offers}, Brewer.{offering, brewing_tree, IsOffers}}
+use Rattle.smp_brewer.specs.{Laws.Answers.{some_left}, Method.{method_of}}
+use Rattle.smp_brewer.proofs.{Drawn.{offering_adds_up, offering_adds}, Counts.{leaf_count}}
 
 none_taken : (zs : List ℕ) → ((k : ℕ) → k < length zs → 1 ≤ get_or zs k 0) → count_by marks_taken zs ≡ 0
 none_taken [] h = refl

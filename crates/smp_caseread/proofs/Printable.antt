@@ -1,8 +1,6 @@
 -- Characters that can be printed are text.
-use Rattle.std.proofs.Common.{ℕ, ◌<◌, List, [], ◌∷◌, length, get_or, zero, suc, arith}
-use Rattle.std.specs.List.{All}
-use Rattle.std.specs.Str.{IsUtf8, IsAscii}
-use Rattle.std.proofs.lemmas.Str.{IsUtf8-from_ascii}
+use Rattle.std.proofs.{Common.{ℕ, ◌<◌, List, [], ◌∷◌, length, get_or, zero, suc, arith}, lemmas.Str.{IsUtf8-from_ascii}}
+use Rattle.std.specs.{List.{All}, Str.{IsUtf8, IsAscii}}
 use Rattle.std.proofs.lemmas.List.Elements.{All-get_or}
 use Rattle.smp_caseread.specs.Escapes.{IsPrintable}
 

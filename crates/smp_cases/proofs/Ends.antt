@@ -1,14 +1,9 @@
 -- How a run over a tape ends.
 use Rattle.std.proofs.Common.{◌≡◌, ℕ, List, [], Err, refl, sym, ap, subst, ◌∙◌}
-use Rattle.smp_tape.specs.declared.draws.DrawFault.{DrawFault}
-use Rattle.smp_tape.specs.TapeSources.{tape_source}
-use Rattle.smp_tape.specs.Tapes.{Values, tape_of_values}
-use Rattle.smp_split.specs.Paths.{Entry}
-use Rattle.smp_split.specs.Runs.{leaf, stopped, run, IsLeaf, IsOutcome}
-use Rattle.smp_split.specs.Trees.{Tree, Lawful}
+use Rattle.smp_tape.specs.{declared.draws.DrawFault.{DrawFault}, TapeSources.{tape_source}, Tapes.{Values, tape_of_values}}
+use Rattle.smp_split.specs.{Paths.{Entry}, Runs.{leaf, stopped, run, IsLeaf, IsOutcome}, Trees.{Tree, Lawful}}
 use Rattle.smp_split.proofs.Runs.{run_is}
-use Rattle.smp_cases.specs.Cases.{drawn, ended}
-use Rattle.smp_cases.specs.declared.fault.CaseFault.TheVariants.{Draw}
+use Rattle.smp_cases.specs.{Cases.{drawn, ended}, declared.fault.CaseFault.TheVariants.{Draw}}
 
 module _ {State : Type 0} (tree : Tree State) (start : State) (values : List ℕ) (tape : Values) (taken : tape.taken ≡ []) (left : tape.left ≡ values) where
   tape_is : tape ≡ tape_of_values [] values

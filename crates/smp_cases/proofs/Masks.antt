@@ -1,7 +1,6 @@
 -- A mask, unit by unit.
-use Rattle.std.proofs.Common.{◌≡◌, ℕ, suc, ◌+◌, ◌-◌, ◌^◌, ◌<◌, Bool, true, false, arith, sym, ap, ◌∙◌}
+use Rattle.std.proofs.{Common.{◌≡◌, ℕ, suc, ◌+◌, ◌-◌, ◌^◌, ◌<◌, Bool, true, false, arith, sym, ap, ◌∙◌}, Math.Nat.{pow-suc}}
 use Rattle.std.specs.List.{filter, range_with_len}
-use Rattle.std.proofs.Math.Nat.{pow-suc}
 use Rattle.std.proofs.lemmas.List.Sums.{sum_by-cons}
 use Rattle.smp_split.proofs.Filters.{filter_here, filter_next}
 use Rattle.smp_cases.specs.Cases.{mask}

@@ -5,29 +5,18 @@ use Rattle.std.proofs.lemmas.Bool.{cases_Bool}
 use Rattle.toml.specs.Data.{Members, get_member}
 use Rattle.smp_prob.specs.declared.orders.Order.{Order}
 use Rattle.smp_prob.specs.declared.orders.Order.TheVariants as the_order
-use Rattle.smp_design.specs.declared.design.Design.{Design}
-use Rattle.smp_design.specs.declared.method.Method.{Method}
-use Rattle.smp_design.specs.declared.method.Needs.{Needs}
-use Rattle.smp_design.specs.declared.method.Needs.TheVariants.{Nothing, Balance, Near, Both}
-use Rattle.smp_design.specs.declared.fault.DesignFault.{DesignFault}
+use Rattle.smp_design.specs.{declared.design.Design.{Design}, declared.method.Method.{Method}, declared.method.Needs.{Needs}}
+use Rattle.smp_design.specs.{declared.method.Needs.TheVariants.{Nothing, Balance, Near, Both}, declared.fault.DesignFault.{DesignFault}}
 use Rattle.smp_design.specs.declared.fault.DesignFault.TheVariants.{Version, UnknownKey, MissingKey, Clash}
-use Rattle.smp_design.specs.declared.reading.UnitColumns.{UnitColumns}
-use Rattle.smp_design.specs.declared.reading.SampleSize.{SampleSize}
-use Rattle.smp_design.specs.declared.reading.SecondStage.{SecondStage}
-use Rattle.smp_design.specs.declared.reading.ValueColumns.{ValueColumns}
-use Rattle.smp_design.specs.Bounds.{IsDesign, HasOnlyProbabilities, Ascend}
+use Rattle.smp_design.specs.{declared.reading.UnitColumns.{UnitColumns}, declared.reading.SampleSize.{SampleSize}}
+use Rattle.smp_design.specs.{declared.reading.SecondStage.{SecondStage}, declared.reading.ValueColumns.{ValueColumns}}
+use Rattle.smp_design.specs.{Bounds.{IsDesign, HasOnlyProbabilities, Ascend}, Procedures.{AreNeeded, From1To}}
 use Rattle.smp_design.specs.Designs.{document, unit_columns, sample_size, value_columns, second_stage, values, design_of}
-use Rattle.smp_design.specs.Procedures.{AreNeeded, From1To}
 use Rattle.smp_design.specs.Keys
-use Rattle.smp_design.specs.Keys.{has, version_of, unknown_key, missing_key}
-use Rattle.smp_frac.specs.Faults.{or_fault}
-use Rattle.smp_frac.specs.Memory.{Reads}
-use Rattle.smp_design.specs.Faults.{is_memory, good, none_found}
-use Rattle.smp_design.specs.Values.{last_version, version, method}
-use Rattle.smp_design.specs.Words.{row, is_balance, is_near, takes_second}
-use Rattle.smp_design.proofs.Went.{went, is_there, is_good, found_none, goes_on}
-use Rattle.smp_design.proofs.ValueBounds.{Few, version-range}
-use Rattle.smp_design.proofs.KnownKeys.{prob_in_2}
+use Rattle.smp_design.specs.{Keys.{has, version_of, unknown_key, missing_key}, Faults.{is_memory, good, none_found}}
+use Rattle.smp_frac.specs.{Faults.{or_fault}, Memory.{Reads}}
+use Rattle.smp_design.specs.{Values.{last_version, version, method}, Words.{row, is_balance, is_near, takes_second}}
+use Rattle.smp_design.proofs.{Went.{went, is_there, is_good, found_none, goes_on}, ValueBounds.{Few, version-range}, KnownKeys.{prob_in_2}}
 use Rattle.smp_design.proofs.Stages.{NoneMissing, none_missing, NoClash, no_clash, UnitFacts, unit_facts, SampleFacts, sample_facts, ValueFacts, value_facts, SecondFacts, second_facts, needs-is}
 
 -- the columns of a method with these needs are those that it needs

@@ -1,12 +1,9 @@
 -- Bytes that are a document, and bytes that are none.
-use Rattle.std.proofs.Common.{◌≡◌, ℕ, List, Some, None, Ok, Err, inl, inr}
+use Rattle.std.proofs.{Common.{◌≡◌, ℕ, List, Some, None, Ok, Err, inl, inr}, lemmas.Bool.{cases_Bool}}
 use Rattle.std.specs.Str.{IsUtf8, is_utf8}
-use Rattle.std.proofs.lemmas.Bool.{cases_Bool}
 use Rattle.std.proofs.lemmas.Str.{IsUtf8-from_is_utf8, is_utf8-from_IsUtf8}
-use Rattle.toml.specs.Data.{Members}
-use Rattle.toml.specs.Parse.{parse_document}
-use Rattle.smp_design.specs.Designs.{document}
-use Rattle.smp_design.specs.declared.fault.DesignFault.TheVariants.{Syntax}
+use Rattle.toml.specs.{Data.{Members}, Parse.{parse_document}}
+use Rattle.smp_design.specs.{Designs.{document}, declared.fault.DesignFault.TheVariants.{Syntax}}
 
 pub is_document : (bytes : List ℕ) (t : Members) → IsUtf8 bytes → parse_document bytes ≡ Some t → document bytes ≡ Ok t
 unfolding document

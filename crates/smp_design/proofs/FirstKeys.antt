@@ -1,18 +1,10 @@
 -- The keys of a table, and the first that passes a test.
 use Rattle.std.proofs.Common.{filter, map, IfSome, Less, nat_cmp, ◌≡◌, ℕ, Bool, true, false, cond, List, [], ◌∷◌, Option, Some, None, option_map, find, String, string_bytes, refl, sym, ◌∙◌, ap, Bor, inl, inr}
-use Rattle.std.specs.Option.{option_copied}
-use Rattle.std.specs.List.{AllByRecursion, list_any}
-use Rattle.std.specs.Str.{bytes_eq}
-use Rattle.std.specs.List.Sorted.{IsStrictlySortedBy}
-use Rattle.std.specs.Cmp.Lexicographic.{slice_cmp}
-use Rattle.std.specs.Ordering.{ordering_reverse}
-use Rattle.std.specs.String.{string_cmp}
-use Rattle.std.proofs.lemmas.Cmp.{nat_list_cmp_total}
-use Rattle.std.specs.declared.alloc.Global.{Global}
-use Rattle.std.proofs.lemmas.Bool.{cases_Bool}
+use Rattle.std.specs.{Option.{option_copied}, List.{AllByRecursion, list_any}, Str.{bytes_eq}, List.Sorted.{IsStrictlySortedBy}}
+use Rattle.std.specs.{Cmp.Lexicographic.{slice_cmp}, Ordering.{ordering_reverse}, String.{string_cmp}, declared.alloc.Global.{Global}}
+use Rattle.std.proofs.{lemmas.Cmp.{nat_list_cmp_total}, lemmas.Bool.{cases_Bool}}
 use Rattle.std.specs.Map.{keys_of}
-use Rattle.toml.specs.declared.value.Value.{Value}
-use Rattle.toml.specs.View.{members_view}
+use Rattle.toml.specs.{declared.value.Value.{Value}, View.{members_view}}
 use Rattle.smp_design.specs.Keys as keys
 
 found_by : (p : List ℕ → Bool) (key : String Global) (rest : Option (String Global)) (b : Bool) → option_map string_bytes (cond b (Some key) rest) ≡ cond b (Some (string_bytes key)) (option_map string_bytes rest)

@@ -1,13 +1,9 @@
 -- The keys of a design that has no unknown key.
 use Rattle.std.proofs.Common.{◌≡◌, ℕ, zero, suc, arith, Bool, true, false, cond, not, nat_cmp, Ordering, Less, Equal, Greater, List, ◌∷◌, filter, Option, Some, None, codes, refl, sym, ap, ◌∙◌}
-use Rattle.std.specs.Prelude.{is_some}
-use Rattle.std.specs.Ordering.{match_ordering, is_eq}
-use Rattle.std.specs.Cmp.Lexicographic.{slice_cmp}
-use Rattle.std.proofs.lemmas.Map.Text.{is_eq-slice_cmp}
-use Rattle.std.proofs.lemmas.Slice.Eq.{bytes_eq-Decides}
+use Rattle.std.specs.{Prelude.{is_some}, Ordering.{match_ordering, is_eq}, Cmp.Lexicographic.{slice_cmp}}
+use Rattle.std.proofs.{lemmas.Map.Text.{is_eq-slice_cmp}, lemmas.Slice.Eq.{bytes_eq-Decides}}
 use Rattle.toml.specs.Data.{Data, Members, no_members, member, get_member}
-use Rattle.smp_design.specs.Procedures.{From1To}
-use Rattle.smp_design.specs.Values.{last_version}
+use Rattle.smp_design.specs.{Procedures.{From1To}, Values.{last_version}}
 use Rattle.smp_design.specs.Keys.{first_key, is_among, keys_of, first_unknown, has, known_keys, unknown_key}
 use Rattle.smp_design.proofs.Went.{neither}
 

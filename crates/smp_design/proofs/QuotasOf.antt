@@ -1,19 +1,12 @@
 -- The quotas of a table's entries, one after the other.
 use Rattle.std.proofs.Common.{◌≡◌, ℕ, List, [], ◌∷◌, ◌++◌, Option, Some, None, option_map, map, IfSome, Ok, refl, sym, ap, ◌∙◌, append_assoc}
-use Rattle.std.specs.Prelude.{unwrap_or}
-use Rattle.std.specs.List.Sorted.{IsStrictlySortedBy}
-use Rattle.std.specs.Map.{keys_of}
-use Rattle.std.specs.String.{string_cmp}
-use Rattle.toml.specs.Data.{Data, Members, no_members, member}
-use Rattle.toml.specs.View.{members_view}
+use Rattle.std.specs.{Prelude.{unwrap_or}, List.Sorted.{IsStrictlySortedBy}, Map.{keys_of}, String.{string_cmp}}
+use Rattle.toml.specs.{Data.{Data, Members, no_members, member}, View.{members_view}}
 use Rattle.toml.proofs.Views.{Entry}
-use Rattle.smp_design.specs.Bounds.{Ascend}
+use Rattle.smp_design.specs.{Bounds.{Ascend}, Faults.{good}, Values.{number, quotas_of}}
 use Rattle.smp_design.specs.Keys as keys
-use Rattle.smp_design.specs.Faults.{good}
-use Rattle.smp_design.proofs.FirstKeys.{keys_ascend}
-use Rattle.smp_design.proofs.Went.{goes_on, mapped}
+use Rattle.smp_design.proofs.{FirstKeys.{keys_ascend}, Went.{goes_on, mapped}}
 use Rattle.smp_design.specs.declared.design.Quota as quota
-use Rattle.smp_design.specs.Values.{number, quotas_of}
 
 moved : (done : List quota.Quota) (q : quota.Quota) (rest : Option (List quota.Quota)) → option_map (λ more. (done ++ q ∷ []) ++ more) rest ≡ option_map (λ more. done ++ more) (option_map (λ more. q ∷ more) rest)
 moved done q None = refl

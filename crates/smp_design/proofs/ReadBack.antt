@@ -1,11 +1,8 @@
 -- A word means a thing exactly where it is that thing's word.
-use Rattle.std.proofs.Common.{◌≡◌, ◌↔◌, ℕ, List, [], ◌∷◌, Option, Some, bytes_eq, refl, ap, ◌∙◌, inl, inr}
-use Rattle.std.proofs.lemmas.Bool.{cases_Bool}
+use Rattle.std.proofs.{Common.{◌≡◌, ◌↔◌, ℕ, List, [], ◌∷◌, Option, Some, bytes_eq, refl, ap, ◌∙◌, inl, inr}, lemmas.Bool.{cases_Bool}}
 use Rattle.std.proofs.lemmas.Slice.Eq.{bytes_eq-Decides}
-use Rattle.smp_prob.specs.declared.orders.Order.{Order}
-use Rattle.smp_prob.specs.declared.orders.Order.TheVariants.{Frame, Random}
-use Rattle.smp_design.specs.declared.method.Method.{Method}
-use Rattle.smp_design.specs.declared.method.Method.TheVariants.{Pivotal}
+use Rattle.smp_prob.specs.{declared.orders.Order.{Order}, declared.orders.Order.TheVariants.{Frame, Random}}
+use Rattle.smp_design.specs.{declared.method.Method.{Method}, declared.method.Method.TheVariants.{Pivotal}}
 use Rattle.smp_design.specs.Words.{row, methods, meaning, method_named, order_word, order_of}
 
 -- what a word means has that word

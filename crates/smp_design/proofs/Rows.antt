@@ -1,9 +1,8 @@
 -- What the columns of a method's row say.
 use Rattle.std.proofs.Common.{◌≡◌, ◌⊎◌, ℕ, ◌+◌, ◌≤◌, true, false, refl, ap, inl, inr, arith}
 use Rattle.std.specs.Prelude.{not}
-use Rattle.smp_design.specs.declared.method.Method.{Method}
+use Rattle.smp_design.specs.{declared.method.Method.{Method}, declared.method.Needs.{Needs}}
 use Rattle.smp_design.specs.declared.method.Method.TheVariants.{Cube, LocalCube, StratifiedCube, Systematic}
-use Rattle.smp_design.specs.declared.method.Needs.{Needs}
 use Rattle.smp_design.specs.declared.method.Needs.TheVariants.{Nothing, Balance, Near, Both}
 use Rattle.smp_design.specs.Procedures.{AreNeeded, From1To, IsProcedure, without_values}
 use Rattle.smp_design.specs.Words.{row, balances, draws_together, in_second, is_balance, is_near, is_nothing, most_balance, most_near, needs_columns}

@@ -1,17 +1,12 @@
 -- What is true of each part of a design that was read.
 use Rattle.std.proofs.Common.{◌≡◌, ℕ, true, false, not, ◌&&◌, List, [], Option, Some, None, IfSome, Result, Ok, codes, refl, ap, ◌∙◌, arith}
-use Rattle.std.specs.Option.{option_map_or}
-use Rattle.std.specs.Prelude.{All, IfNone, option_and_then, is_some, unwrap_or}
+use Rattle.std.specs.{Option.{option_map_or}, Prelude.{All, IfNone, option_and_then, is_some, unwrap_or}}
 use Rattle.toml.specs.Data.{Data, Members, get_member, as_str, as_table}
 use Rattle.smp_prob.specs.declared.orders.Order.TheVariants as the_order
 use Rattle.smp_design.specs.declared.design.Quota as quota
-use Rattle.smp_design.specs.declared.method.Method.{Method}
-use Rattle.smp_design.specs.declared.method.Needs.TheVariants.{Nothing}
-use Rattle.smp_design.specs.declared.reading.UnitColumns.{UnitColumns}
-use Rattle.smp_design.specs.declared.reading.SampleSize.{SampleSize}
-use Rattle.smp_design.specs.declared.reading.SecondStage.{SecondStage}
-use Rattle.smp_design.specs.declared.reading.ValueColumns.{ValueColumns}
-use Rattle.smp_design.specs.Bounds.{InRange}
+use Rattle.smp_design.specs.{declared.method.Method.{Method}, declared.method.Needs.TheVariants.{Nothing}, Bounds.{InRange}}
+use Rattle.smp_design.specs.{declared.reading.UnitColumns.{UnitColumns}, declared.reading.SampleSize.{SampleSize}}
+use Rattle.smp_design.specs.{declared.reading.SecondStage.{SecondStage}, declared.reading.ValueColumns.{ValueColumns}}
 use Rattle.smp_design.specs.Designs.{unit_columns, sample_size, value_columns, second_stage_of, second_stage}
 use Rattle.smp_design.specs.Keys.{has, lacks, needs, missing_key, rival_keys, clash}
 use Rattle.smp_design.specs.Values.{number, method, second_method, order, names, quotas, optional}

@@ -1,16 +1,12 @@
 -- What is true of the values that keys have.
 use Rattle.std.proofs.Common.{◌≡◌, ℕ, ℤ, pos, negsuc, ◌≤◌, true, ◌&&◌, nat_le, List, [], ◌∷◌, length, Option, Some, None, option_map, IfSome, sym, ap, subst}
 use Rattle.std.specs.Prelude.{All, if◌then◌else◌, option_and_then, is_some}
-use Rattle.std.proofs.lemmas.Bool.{and_parts, leb-true}
-use Rattle.std.proofs.lemmas.List.Elements.{All-nil, All-cons}
+use Rattle.std.proofs.{lemmas.Bool.{and_parts, leb-true}, lemmas.List.Elements.{All-nil, All-cons}}
 use Rattle.smp_frac.specs.Limits.{most_rows}
 use Rattle.toml.specs.Data.{Data, Members, no_members, member, as_integer, as_array, as_table}
 use Rattle.smp_design.specs.declared.design.Quota as quota
-use Rattle.smp_design.specs.declared.method.Method.{Method}
-use Rattle.smp_design.specs.Bounds.{InRange}
-use Rattle.smp_design.specs.Procedures.{From1To}
+use Rattle.smp_design.specs.{declared.method.Method.{Method}, Bounds.{InRange}, Procedures.{From1To}, Words.{in_second}}
 use Rattle.smp_design.specs.Values.{last_version, from_1_to, integer_to, version, number, method, second_method, names, strings, quotas_of, quotas, optional}
-use Rattle.smp_design.specs.Words.{in_second}
 use Rattle.smp_design.proofs.Went.{goes_on, mapped, passes}
 
 from_1_to-range : (most : ℕ) (z : ℤ) (n : ℕ) → from_1_to most z ≡ Some n → From1To most n

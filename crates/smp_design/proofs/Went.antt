@@ -1,10 +1,8 @@
 -- Readings that had no fault, and tests of which none held.
 use Rattle.std.proofs.Common.{◌≡◌, ℕ, Bool, true, false, cond, List, Option, Some, None, option_map, Result, Ok, Err, refl, subst}
 use Rattle.std.specs.Prelude.{option_and_then}
-use Rattle.smp_design.specs.Keys.{or_else}
+use Rattle.smp_design.specs.{Keys.{or_else}, Faults.{none_found, good}, declared.fault.DesignFault.{DesignFault}}
 use Rattle.smp_frac.specs.Faults.{◌>>=◌, or_fault}
-use Rattle.smp_design.specs.Faults.{none_found, good}
-use Rattle.smp_design.specs.declared.fault.DesignFault.{DesignFault}
 use Rattle.smp_design.specs.declared.fault.DesignFault.TheVariants.{BadValue}
 
 -- a reading that went on to an answer had a value

@@ -1,13 +1,10 @@
 -- The cut for one draw less.
 use Rattle.std.proofs.Common.{◌≡◌, ℕ, ◌+◌, ◌-◌, ◌*◌, ◌^◌, ◌<◌, ◌≤◌, List, length, get_or, drop, arith, ap, inl, inr}
 use Rattle.std.specs.Prelude.{sum}
-use Rattle.std.proofs.Math.Nat.{mul-le-mul_left}
-use Rattle.std.proofs.lemmas.List.{length-map}
-use Rattle.std.proofs.lemmas.List.Sums.{sum_by-drop_more, sum_by-take-drop}
+use Rattle.std.proofs.{Math.Nat.{mul-le-mul_left}, lemmas.List.{length-map}, lemmas.List.Sums.{sum_by-drop_more, sum_by-take-drop}}
 use Rattle.smp_prob.specs.Requested.{certain_units, positive_units, Stops}
 use Rattle.smp_prob.proofs.Certain.{certain_within}
-use Rattle.smp_elim.specs.Kept.Cuts.{InFallingOrder}
-use Rattle.smp_elim.specs.Laws.Weights.{all_positive}
+use Rattle.smp_elim.specs.{Kept.Cuts.{InFallingOrder}, Laws.Weights.{all_positive}}
 use Rattle.smp_elim.proofs.Orders.{falling, in_range, long, size_there, total, not_before, before}
 
 pub enough_of : (sizes : List ℕ) → ((k : ℕ) → k < length sizes → 1 ≤ get_or sizes k 0) → (n : ℕ) → n ≤ length sizes → n ≤ positive_units sizes

@@ -1,18 +1,13 @@
 -- The amounts of the units that are certain now alone.
 use Rattle.std.proofs.Common.{◌≡◌, ◌≢◌, ℕ, suc, ◌+◌, ◌-◌, ◌*◌, ◌<◌, ◌≤◌, false, List, [], ◌∷◌, length, get_or, set, arith, refl, ap, inl, inr}
 use Rattle.std.specs.List.{range_with_len, sum, sum_by}
-use Rattle.std.proofs.lemmas.Bool.{cases_Bool, cases_eq}
-use Rattle.std.proofs.lemmas.List.{get_or-set_same, get_or-set_other}
-use Rattle.std.proofs.lemmas.List.Sums.{sum_by-cons}
+use Rattle.std.proofs.{lemmas.Bool.{cases_Bool, cases_eq}, lemmas.List.{get_or-set_same, get_or-set_other}, lemmas.List.Sums.{sum_by-cons}}
 use Rattle.smp_prob.specs.Requested.{is_certain, certain_units, open_total, positive_units}
 use Rattle.smp_prob.proofs.Certain.{certain_within, part_share}
 use Rattle.smp_split.proofs.Counts.{sum_by-indices}
-use Rattle.smp_elim.specs.declared.cuts.Cut.{Cut}
-use Rattle.smp_elim.specs.Kept.Cuts.{InFallingOrder, IsCutAt}
-use Rattle.smp_elim.specs.Kept.Weights.{fresh_amount}
+use Rattle.smp_elim.specs.{declared.cuts.Cut.{Cut}, Kept.Cuts.{InFallingOrder, IsCutAt}, Kept.Weights.{fresh_amount}}
 use Rattle.smp_elim.specs.Laws.Sums.{sum_by-most}
-use Rattle.smp_elim.proofs.Cutting.{enough_of}
-use Rattle.smp_elim.proofs.Orders.{in_range, long, now_certain, not_later, stands_between}
+use Rattle.smp_elim.proofs.{Cutting.{enough_of}, Orders.{in_range, long, now_certain, not_later, stands_between}}
 
 -- a sum of amounts that are each at most another, and of such that are at most 1
 pub sum_most : (f : ℕ → ℕ) (xs : List ℕ) (n : ℕ) → length xs ≡ n → ((k : ℕ) → k < n → get_or xs k 0 ≤ f k) → sum xs ≤ sum_by f (range_with_len 0 n)

@@ -1,19 +1,15 @@
 -- The unit that a draw leads to, by the amounts that are kept.
 use Rattle.std.proofs.Common.{◌≡◌, ℕ, zero, suc, ◌+◌, ◌-◌, ◌*◌, ◌^◌, ◌<◌, ◌≤◌, true, Bool, List, length, get_or, arith, refl, sym, ap, ◌∙◌, inl, inr}
 use Rattle.std.specs.List.{range_with_len, sum, sum_by}
-use Rattle.std.proofs.Math.Nat.{mul-le-mul_left}
-use Rattle.std.proofs.lemmas.Bool.{cases_Bool, cases_lt}
+use Rattle.std.proofs.{Math.Nat.{mul-le-mul_left}, lemmas.Bool.{cases_Bool, cases_lt}}
 use Rattle.smp_places.specs.Amounts.{weighted_before}
 use Rattle.smp_places.proofs.Summing.{weighted_all, weighted_more, weighted_none}
 use Rattle.smp_split.specs.Trees.{picked}
-use Rattle.smp_split.proofs.Sums.{sum_by-last}
-use Rattle.smp_split.proofs.Units.{picked-units}
+use Rattle.smp_split.proofs.{Sums.{sum_by-last}, Units.{picked-units}}
 use Rattle.smp_prob.specs.Requested.{certain_units, open_total}
 use Rattle.smp_prob.proofs.Certain.{certain_within}
-use Rattle.smp_elim.specs.declared.cuts.Cut.{Cut}
+use Rattle.smp_elim.specs.{declared.cuts.Cut.{Cut}, Kept.States.{IsKept, remaining}, Kept.Weights.{IsReady, common_amount, fresh_amount}}
 use Rattle.smp_elim.specs.Elimination.{Remaining, left_count, fewer, draws_at, total_at, factor, bound_of, weight_of, may_go, without, eliminate_parts, IsRemaining}
-use Rattle.smp_elim.specs.Kept.States.{IsKept, remaining}
-use Rattle.smp_elim.specs.Kept.Weights.{IsReady, common_amount, fresh_amount}
 use Rattle.smp_elim.specs.Laws.Sums.{sum_by-most, sum_by-times}
 use Rattle.smp_elim.specs.Laws.Weights.{stays, fresh, open_, gone, stands, weight_at, sum_weights, bound_narrow, enough_fewer, open_keeps}
 

@@ -1,19 +1,14 @@
 -- The units in falling order of their sizes: those that are certain come first.
 use Rattle.std.proofs.Common.{◌≡◌, ℕ, zero, suc, ◌+◌, ◌-◌, ◌*◌, ◌<◌, ◌≤◌, true, false, cond, nat_lt, List, length, get_or, drop, map, reverse, arith, refl, sym, ap, subst, ◌∙◌, inl, inr}
-use Rattle.std.specs.Prelude.{sum}
-use Rattle.std.specs.List.{range_with_len}
-use Rattle.std.specs.List.Sorted.{IsPermutation}
-use Rattle.std.proofs.Math.Nat.{mul-le-mul_left}
-use Rattle.std.proofs.lemmas.Bool.{cases_Bool, cases_lt, lt-ltb, le-ltb, ltb-true, ltb-false}
-use Rattle.std.proofs.lemmas.List.{get_or_past, get_or-map, length-map, get_or-reverse, length-reverse}
-use Rattle.std.proofs.lemmas.List.FromFn.{fill_by_all}
+use Rattle.std.specs.{Prelude.{sum}, List.{range_with_len}, List.Sorted.{IsPermutation}}
+use Rattle.std.proofs.{Math.Nat.{mul-le-mul_left}, lemmas.Bool.{cases_Bool, cases_lt, lt-ltb, le-ltb, ltb-true, ltb-false}}
+use Rattle.std.proofs.{lemmas.List.{get_or_past, get_or-map, length-map, get_or-reverse, length-reverse}, lemmas.List.FromFn.{fill_by_all}}
 use Rattle.std.proofs.lemmas.List.Sorted.{IsPermutation-map, IsPermutation-reverse, IsPermutation-trans, sum_by-IsPermutation}
 use Rattle.std.proofs.lemmas.List.Sums.{sum_by-drop_more, sum_by-le-sum_by}
 use Rattle.smp_places.specs.Orders.{InRisingOrder}
 use Rattle.smp_places.proofs.Orders.{order_long, order_below, order_reaches}
 use Rattle.smp_prob.specs.Requested.{is_certain, certain_units, open_total, positive_units, IsFalling, Stops, FirstAreCertain}
-use Rattle.smp_prob.proofs.Certain.{still_certain}
-use Rattle.smp_prob.proofs.FallingOrders.{first_are_certain}
+use Rattle.smp_prob.proofs.{Certain.{still_certain}, FallingOrders.{first_are_certain}}
 use Rattle.smp_elim.specs.Kept.Cuts.{InFallingOrder}
 
 -- the rising order, from its end on

@@ -1,40 +1,24 @@
 -- Where a selection starts: all units are left, and each has its probability as its value.
 use Rattle.std.proofs.Common.{◌≡◌, ◌≢◌, ℕ, zero, suc, ◌+◌, ◌-◌, ◌*◌, ◌^◌, ◌<◌, ◌≤◌, Bool, true, false, cond, max, nat_eq, List, [], ◌∷◌, length, get_or, replicate, arith, refl, sym, ap, subst, ◌∙◌, inl, inr}
 use Rattle.std.specs.List.{count_by, range_with_len, sum, sum_by}
-use Rattle.std.proofs.Math.Nat.{mul-le-mul_right}
-use Rattle.std.proofs.lemmas.Bool.{cases_Bool, cases_eq, cases_lt, eqb-true, eqb-false, eq-eqb, ne_eqb}
+use Rattle.std.proofs.{Math.Nat.{mul-le-mul_right}, lemmas.Bool.{cases_Bool, cases_eq, cases_lt, eqb-true, eqb-false, eq-eqb, ne_eqb}}
 use Rattle.std.proofs.lemmas.List.{length-replicate, get_or-replicate, get_or_past}
 use Rattle.std.proofs.lemmas.List.Sums.{sum_by-cons, count_by-le-length, get_or-le-sum_by}
 use Rattle.smp_frac.specs.Fractions.{Fraction, Same, whole, times, over, inverse}
-use Rattle.smp_frac.proofs.Arithmetic.{cancel, same_refl, same_sym, same_trans, times_same, times-one}
-use Rattle.smp_frac.proofs.Over.{over_one}
-use Rattle.smp_prob.specs.declared.requests.Request.{Request}
-use Rattle.smp_prob.specs.Requested.{is_certain, certain_units, open_total, positive_units}
-use Rattle.smp_prob.specs.Requests.{IsRequest}
-use Rattle.smp_prob.specs.Inclusions.{free_fraction}
-use Rattle.smp_prob.proofs.Sizes.{sum_by-same}
-use Rattle.smp_prob.proofs.Certain.{all_certain, none_certain, certain_within, part_share}
-use Rattle.smp_split.specs.Counts.{AddsUp, LeavesSelect}
-use Rattle.smp_split.specs.Methods.{Starts}
-use Rattle.smp_split.proofs.Counts.{count_by-indices, leaves_select, sum_by-indices}
-use Rattle.smp_split.specs.Paths.{Entry, Leads}
-use Rattle.smp_split.specs.Trees.{weight_sum}
+use Rattle.smp_frac.proofs.{Arithmetic.{cancel, same_refl, same_sym, same_trans, times_same, times-one}, Over.{over_one}}
+use Rattle.smp_prob.specs.{declared.requests.Request.{Request}, Requested.{is_certain, certain_units, open_total, positive_units}}
+use Rattle.smp_prob.specs.{Requests.{IsRequest}, Inclusions.{free_fraction}, Shares.{draws_of}}
+use Rattle.smp_prob.proofs.{Sizes.{sum_by-same}, Certain.{all_certain, none_certain, certain_within, part_share}}
+use Rattle.smp_split.specs.{Counts.{AddsUp, LeavesSelect}, Methods.{Starts}, Paths.{Entry, Leads}, Trees.{weight_sum}}
+use Rattle.smp_split.proofs.{Counts.{count_by-indices, leaves_select, sum_by-indices}, Methods.{starts}, Sums.{adds_up, numerators_add}}
 use Rattle.smp_split.specs.Laws.Steps.{leads_belong}
-use Rattle.smp_split.proofs.Methods.{starts}
-use Rattle.smp_split.proofs.Sums.{adds_up, numerators_add}
 use Rattle.smp_split.proofs.Units.{each_unit}
 use Rattle.smp_values.specs.Starts.{IsRequested}
 use Rattle.smp_elim.specs.Elimination.{Remaining, all_left, is_left, left_count, fewer, fraction_at, may_go, weight_of, without, value_of, eliminate_parts, elimination_tree, AreSizes, IsRemaining}
-use Rattle.smp_elim.specs.Method.{BoundsAreBelow, HasFractions, method_of, started}
-use Rattle.smp_prob.specs.Shares.{draws_of}
-use Rattle.smp_elim.specs.Laws.Splits.{elimination_lawful}
-use Rattle.smp_elim.specs.Laws.Sums.{sum_by-most, sum_by-plus, sum_by-times}
-use Rattle.smp_elim.specs.Laws.Values.{fraction_certain, fraction_open}
-use Rattle.smp_elim.specs.Laws.Weights.{sizes_enough, open_within, bound_is, bound_narrow}
-use Rattle.smp_elim.specs.declared.cuts.Cut.{Cut}
-use Rattle.smp_elim.specs.Kept.Cuts.{IsCutAt}
-use Rattle.smp_elim.specs.Kept.Weights.{IsReady, fresh_amount}
-use Rattle.smp_elim.specs.Kept.States.{IsKept, IsStart}
+use Rattle.smp_elim.specs.{Method.{BoundsAreBelow, HasFractions, method_of, started}, Laws.Splits.{elimination_lawful}, Kept.Cuts.{IsCutAt}}
+use Rattle.smp_elim.specs.{Laws.Sums.{sum_by-most, sum_by-plus, sum_by-times}, Laws.Values.{fraction_certain, fraction_open}}
+use Rattle.smp_elim.specs.{Laws.Weights.{sizes_enough, open_within, bound_is, bound_narrow}, declared.cuts.Cut.{Cut}}
+use Rattle.smp_elim.specs.{Kept.Weights.{IsReady, fresh_amount}, Kept.States.{IsKept, IsStart}}
 use Rattle.smp_elim.proofs.Finding.{fresh_within}
 
 count_all : (n : ℕ) → count_by (λ (b : Bool). b) (replicate n true) ≡ n

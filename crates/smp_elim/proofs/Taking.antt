@@ -1,19 +1,14 @@
 -- What is kept when a unit is taken out.
 use Rattle.std.proofs.Common.{◌≡◌, ◌≢◌, ℕ, ◌-◌, ◌^◌, ◌<◌, ◌≤◌, true, false, Bool, List, length, length-set, get_or, set, arith, refl, sym, ap, ◌∙◌, inl, inr, true≢false}
 use Rattle.std.specs.List.{range_with_len, sum_by}
-use Rattle.std.proofs.lemmas.Bool.{cases_eq, cases_lt}
-use Rattle.std.proofs.lemmas.List.{get_or_past, get_or-set_same, get_or-set_other}
+use Rattle.std.proofs.{lemmas.Bool.{cases_eq, cases_lt}, lemmas.List.{get_or_past, get_or-set_same, get_or-set_other}}
 use Rattle.smp_prob.specs.Requested.{certain_units}
 use Rattle.smp_prob.proofs.Certain.{certain_within}
-use Rattle.smp_elim.specs.declared.cuts.Cut.{Cut}
+use Rattle.smp_elim.specs.{declared.cuts.Cut.{Cut}, Kept.Cuts.{InFallingOrder}, Kept.States.{IsKept, remaining}}
 use Rattle.smp_elim.specs.Elimination.{Remaining, factor, left_count, fewer, is_certain_at, may_go, without, IsRemaining}
-use Rattle.smp_elim.specs.Kept.Cuts.{InFallingOrder}
-use Rattle.smp_elim.specs.Kept.States.{IsKept, remaining}
-use Rattle.smp_elim.specs.Kept.Weights.{IsReady, common_amount, fresh_amount}
-use Rattle.smp_elim.specs.Laws.Splits.{may_parts, one_fewer, after_belongs}
+use Rattle.smp_elim.specs.{Kept.Weights.{IsReady, common_amount, fresh_amount}, Laws.Splits.{may_parts, one_fewer, after_belongs}}
 use Rattle.smp_elim.specs.Laws.Weights.{stays, fresh, open_, gone, stands, enough, open_within, within}
-use Rattle.smp_elim.proofs.Finding.{IsWeighed, fresh_within, is_weighed}
-use Rattle.smp_elim.proofs.Orders.{in_range, long, now_certain, not_later, stands_between}
+use Rattle.smp_elim.proofs.{Finding.{IsWeighed, fresh_within, is_weighed}, Orders.{in_range, long, now_certain, not_later, stands_between}}
 
 module _ (s : Remaining) (ok : IsRemaining (length s.sizes) s) (going : s.wanted < left_count s) (order : List ℕ) (falling : InFallingOrder s.sizes order) where
   abbrev count : ℕ

@@ -1,12 +1,9 @@
 -- The numbers in which a state keeps its values.
-use Rattle.std.proofs.Common.{◌≡◌, ℕ, ◌*◌, List, length, get_or, sym, ap, ◌∙◌, subst}
+use Rattle.std.proofs.{Common.{◌≡◌, ℕ, ◌*◌, List, length, get_or, sym, ap, ◌∙◌, subst}, lemmas.Bool.{false_from_ne_true}}
 use Rattle.std.specs.List.{Contains}
-use Rattle.std.proofs.lemmas.Bool.{false_from_ne_true}
 use Rattle.std.proofs.Math.Nat.{mul_assoc, mul_comm}
-use Rattle.smp_flight.specs.States.{Tracked, Units}
-use Rattle.smp_flight.specs.Kept.Windows.{Windowed, is_in, shares_in, tracked_of}
-use Rattle.smp_flight.specs.Laws.Firsts.{contains_in, in_contains}
-use Rattle.smp_flight.specs.Laws.Windowed.{length-numerators_over, read_in, read_out}
+use Rattle.smp_flight.specs.{States.{Tracked, Units}, Kept.Windows.{Windowed, is_in, shares_in, tracked_of}}
+use Rattle.smp_flight.specs.{Laws.Firsts.{contains_in, in_contains}, Laws.Windowed.{length-numerators_over, read_in, read_out}}
 
 module _ (units : Units) (v : Windowed) (rows : ℕ) (numbers : List ℕ) (s : Tracked) (kept : numbers ≡ v.numer) (is : tracked_of units v rows ≡ s) where
   pub cells_size : length numbers ≡ length s.flight.values.numer

@@ -1,30 +1,18 @@
 -- The search of the cube goes in the order of the frame, so after a move it begins with what is left of the units that it began with and went through.
 use Rattle.std.proofs.Common.{◌≡◌, ◌≢◌, ℕ, ◌≤◌, Bool, true, false, ◌⊎◌, List, ◌++◌, take, drop, length, arith, sym, ap, ◌∙◌, subst, inl, inr}
 use Rattle.std.specs.List.{filter, range_with_len}
-use Rattle.std.proofs.lemmas.Bool.{cases_lt}
-use Rattle.std.proofs.lemmas.List.{take-append-drop}
-use Rattle.std.proofs.lemmas.List.Elements.{filter-append, filter_passes}
+use Rattle.std.proofs.{lemmas.Bool.{cases_lt}, lemmas.List.{take-append-drop}, lemmas.List.Elements.{filter-append, filter_passes}}
 use Rattle.std.proofs.lemmas.List.Kept.{AllPairs-filter}
 use Rattle.smp_prob.specs.Shares.{Shares}
 use Rattle.smp_split.specs.Trees.{EachPart}
 use Rattle.smp_split.specs.declared.kind.Kind.TheVariants as kind
 use Rattle.smp_values.specs.Values.{fractional_units, is_fractional}
-use Rattle.smp_moves.specs.Cubes.{flying, pairing, flight_parts, values_in}
-use Rattle.smp_moves.specs.Moves.{Move, Next, independent, move}
-use Rattle.smp_moves.proofs.Entries.{frame_order as in_frame, order_front}
-use Rattle.smp_moves.proofs.Filtered.{filter_twice}
-use Rattle.smp_flight.specs.Kept.Windows.{is_in}
-use Rattle.smp_flight.specs.Laws.Nexts.{IsKnown}
-use Rattle.smp_flight.specs.Selections.{Balancing, IsBalancing, shares_cube}
-use Rattle.smp_flight.specs.States.{Flight, IsFlight, Units}
-use Rattle.smp_flight.specs.Steps.{chosen, next, next_on}
-use Rattle.smp_flight.specs.Laws.ByOrder.{ends_at, knows}
-use Rattle.smp_flight.proofs.Free.{in_filter, out_filter}
-use Rattle.smp_flight.specs.Laws.Firsts.{changed_in, in_front, within_front}
-use Rattle.smp_flight.proofs.NeverWide.{IsNextFront, KeepsFront}
-use Rattle.smp_flight.specs.Cube.{cube_kind, cube_of}
-use Rattle.smp_moves.proofs.Flights.{flies_not}
-use Rattle.smp_flight.proofs.Owed.{no_choice}
+use Rattle.smp_moves.specs.{Cubes.{flying, pairing, flight_parts, values_in}, Moves.{Move, Next, independent, move}}
+use Rattle.smp_moves.proofs.{Entries.{frame_order as in_frame, order_front}, Filtered.{filter_twice}, Flights.{flies_not}}
+use Rattle.smp_flight.specs.{Kept.Windows.{is_in}, Laws.Nexts.{IsKnown}, Selections.{Balancing, IsBalancing, shares_cube}}
+use Rattle.smp_flight.specs.{States.{Flight, IsFlight, Units}, Steps.{chosen, next, next_on}, Laws.ByOrder.{ends_at, knows}}
+use Rattle.smp_flight.proofs.{Free.{in_filter, out_filter}, NeverWide.{IsNextFront, KeepsFront}, Owed.{no_choice}}
+use Rattle.smp_flight.specs.{Laws.Firsts.{changed_in, in_front, within_front}, Cube.{cube_kind, cube_of}}
 
 -- a search begins with these units
 abbrev pub IsFront : Balancing → List ℕ → Type 0

@@ -1,26 +1,16 @@
 -- A selection starts from the values that are requested, and is balanced.
 use Rattle.std.proofs.Common.{ℤ, List, arith, refl, sym, ◌∙◌}
 use Rattle.smp_frac.proofs.Arithmetic.{same_refl}
-use Rattle.smp_prob.specs.declared.requests.Request.{Request}
-use Rattle.smp_prob.specs.Requests.{IsRequest}
-use Rattle.smp_prob.specs.Shares.{shares_of}
+use Rattle.smp_prob.specs.{declared.requests.Request.{Request}, Requests.{IsRequest}, Shares.{shares_of}}
 use Rattle.smp_prob.proofs.Fractions.{length-numerators}
 use Rattle.smp_split.specs.Methods.{Starts}
 use Rattle.smp_split.proofs.Methods.{starts}
-use Rattle.smp_values.specs.Starts.{IsRequested}
-use Rattle.smp_values.specs.Values.{fractional_units, value_at}
+use Rattle.smp_values.specs.{Starts.{IsRequested}, Values.{fractional_units, value_at}}
 use Rattle.smp_values.proofs.Requests.{requested_values}
 use Rattle.smp_flight.specs.States as flights
-use Rattle.smp_flight.specs.States.{Units, IsFlight}
-use Rattle.smp_flight.specs.Requests.{units_of}
-use Rattle.smp_flight.specs.Landings.{IsBalanced}
-use Rattle.smp_flight.specs.Selections.{IsBalancing, starting}
-use Rattle.smp_flight.proofs.Owed.{selection_balanced}
-use Rattle.smp_flight.proofs.WholeSums.{leaves_count}
-use Rattle.smp_flight.proofs.CubeFronts.{IsFront, keeps_front}
-use Rattle.smp_flight.specs.Cube.{cube_of, cube_tree}
-use Rattle.smp_flight.specs.Laws.CubeSplits.{is_cube}
-use Rattle.smp_flight.specs.CubeMethod.{method_of}
+use Rattle.smp_flight.specs.{States.{Units, IsFlight}, Requests.{units_of}, Landings.{IsBalanced}, Selections.{IsBalancing, starting}}
+use Rattle.smp_flight.proofs.{Owed.{selection_balanced}, WholeSums.{leaves_count}, CubeFronts.{IsFront, keeps_front}}
+use Rattle.smp_flight.specs.{Cube.{cube_of, cube_tree}, Laws.CubeSplits.{is_cube}, CubeMethod.{method_of}}
 
 pub starts_requested : (request : Request) (xs : List (List ℤ)) → IsRequest request →
     IsRequested (cube_tree (units_of request xs)) request (starting (units_of request xs))

@@ -1,35 +1,23 @@
 -- Where the columns of the touched fractional units are independent, the denominator of the values is small.
 use Rattle.std.proofs.Common.{◌≡◌, ◌≢◌, ℕ, ◌*◌, ◌/◌, ◌<◌, ◌≤◌, true, false, cond, List, [], ◌∷◌, ◌++◌, ℤ, pos, neg_ℤ, ◌+ℤ◌, ◌*ℤ◌, map, take, length, length-append, get_or, arith, sym, ap, ap₂, ◌∙◌, subst, inl, inr, mul-pos, mul-le-mul}
 use Rattle.std.specs.Int.RustNames.{unsigned_abs}
-use Rattle.std.proofs.lemmas.Bool.{cases_Bool, cases_eq, cases_lt, true≢false}
-use Rattle.std.proofs.lemmas.Int.{ints}
-use Rattle.std.proofs.lemmas.List.{get_or-map, get_or_past, length-map}
-use Rattle.std.proofs.lemmas.Nat.Gcd.{dvd_trans}
-use Rattle.std.proofs.Math.Nat.{dvd-zero, dvd-mul_right, dvd-mul_left, mul-div_cancel'}
+use Rattle.std.proofs.{lemmas.Bool.{cases_Bool, cases_eq, cases_lt, true≢false}, lemmas.Int.{ints}, lemmas.Nat.Gcd.{dvd_trans}}
+use Rattle.std.proofs.{lemmas.List.{get_or-map, get_or_past, length-map}, Math.Nat.{dvd-zero, dvd-mul_right, dvd-mul_left, mul-div_cancel'}}
 use Prim.Native.Nat.{◌∣◌}
-use Rattle.smp_frac.proofs.Arithmetic.{cancel}
-use Rattle.smp_frac.proofs.Integers.{diff, diffs, diff-neg, diff-same, pos-diff}
+use Rattle.smp_frac.proofs.{Arithmetic.{cancel}, Integers.{diff, diffs, diff-neg, diff-same, pos-diff}}
 use Rattle.smp_frac.specs.Laws.Coprime.{part_positive}
-use Rattle.smp_kernel.specs.Vectors.{entry, combination, dot, unit}
-use Rattle.smp_kernel.specs.RowReduction.{cut, AreIndependent, InForce, IsRelationOn}
+use Rattle.smp_kernel.specs.{Vectors.{entry, combination, dot, unit}, RowReduction.{cut, AreIndependent, InForce, IsRelationOn}}
 use Rattle.smp_kernel.specs.Minors.{HasDenominator, IsFrom, minor_limit}
-use Rattle.smp_kernel.proofs.CircuitSizes.{denominator_of}
-use Rattle.smp_kernel.proofs.Columns.{combination_push}
-use Rattle.smp_kernel.proofs.Dot.{unit_dot}
+use Rattle.smp_kernel.proofs.{CircuitSizes.{denominator_of}, Columns.{combination_push}, Dot.{unit_dot}}
 use Rattle.smp_prob.specs.Shares.{Shares}
 use Rattle.smp_values.specs.Values.{is_fractional}
 use Rattle.smp_values.proofs.Fractional.{not_fractional}
-use Rattle.smp_moves.specs.Kept.Ends.{MakesWhole}
-use Rattle.smp_moves.specs.Moves.{IsOrder, entry_at}
+use Rattle.smp_moves.specs.{Kept.Ends.{MakesWhole}, Moves.{IsOrder, entry_at}}
 use Rattle.smp_moves.proofs.Entries.{entry_at_none, entry_at_place, order_within}
-use Rattle.smp_flight.specs.Kept.Windows.{is_in}
-use Rattle.smp_flight.specs.States.{Units, IsUnits, column, columns_of, size}
-use Rattle.smp_flight.specs.Laws.Firsts.{contains_in, in_range}
+use Rattle.smp_flight.specs.{Kept.Windows.{is_in}, States.{Units, IsUnits, column, columns_of, size}, Laws.Firsts.{contains_in, in_range}}
 use Rattle.smp_flight.proofs.Gained.{AddsUp, all_units, dot_mix, fair, fair_is, gained, map_same, part, part_is, unit_inside, units_apart}
-use Rattle.smp_flight.specs.Laws.MoveTotals.{number_in}
+use Rattle.smp_flight.specs.{Laws.MoveTotals.{number_in}, Laws.Reordered.{same_dot, sum_at}, Laws.Windowed.{in_or}}
 use Rattle.smp_flight.proofs.Narrow.{order_from}
-use Rattle.smp_flight.specs.Laws.Reordered.{same_dot, sum_at}
-use Rattle.smp_flight.specs.Laws.Windowed.{in_or}
 
 -- the value of a unit isn't the requested one
 abbrev pub IsTouched : Units → Shares → ℕ → Type 0

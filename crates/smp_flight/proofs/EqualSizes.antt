@@ -1,15 +1,10 @@
 -- Units of equal sizes with few and small balancing values are narrow.
 use Rattle.std.proofs.Common.{◌≡◌, ℕ, zero, suc, ◌*◌, ◌^◌, ◌<◌, ◌≤◌, pos, length, arith, refl, sym, ap, ◌∙◌, subst, inl, inr, mul-le-mul}
-use Rattle.std.proofs.lemmas.Bool.{cases_lt}
-use Rattle.std.proofs.lemmas.List.{get_or_past}
-use Rattle.std.proofs.lemmas.Nat.Gcd.{dvd_refl}
-use Rattle.std.proofs.Math.Nat.{dvd-mul_right}
+use Rattle.std.proofs.{lemmas.Bool.{cases_lt}, lemmas.List.{get_or_past}, lemmas.Nat.Gcd.{dvd_refl}, Math.Nat.{dvd-mul_right}}
 use Prim.Native.Nat.{◌∣◌}
-use Rattle.smp_kernel.specs.Minors.{minor_limit}
-use Rattle.smp_kernel.specs.Vectors.{entry}
+use Rattle.smp_kernel.specs.{Minors.{minor_limit}, Vectors.{entry}}
 use Rattle.smp_kernel.proofs.TableSizes.{limit_upto}
-use Rattle.smp_flight.specs.Narrow.{AreEqualAndSmall, EqualAreNarrow, IsNarrow}
-use Rattle.smp_flight.specs.States.{Units, IsUnits, column, row_count, size}
+use Rattle.smp_flight.specs.{Narrow.{AreEqualAndSmall, EqualAreNarrow, IsNarrow}, States.{Units, IsUnits, column, row_count, size}}
 
 -- the bound of each row: 1 of the sizes, and 11,360 of the values
 abbrev equal_bound : ℕ → ℕ

@@ -5,33 +5,19 @@ use Rattle.std.proofs.lemmas.Bool.{and_from, and_parts, and_right, cases_Bool, c
 use Rattle.std.proofs.lemmas.List.{get_or-map, length-map, length-take-le, take-map, take_more}
 use Prim.Native.Nat.{◌∣◌}
 use lib.IntN.{*ℤ_comm, *ℤ-zero}
-use Rattle.smp_kernel.specs.Vectors.{entry, dot}
-use Rattle.smp_kernel.specs.RowReduction.{cut, AreIndependent, InForce, IsRelationOn}
-use Rattle.smp_kernel.specs.Minors.{keep}
+use Rattle.smp_kernel.specs.{Vectors.{entry, dot}, RowReduction.{cut, AreIndependent, InForce, IsRelationOn}, Minors.{keep}}
 use Rattle.smp_kernel.specs.Searches.{found}
-use Rattle.smp_kernel.proofs.FoundCircuits.{circuit_length, circuit_row, cut_circuit_short, in_row}
-use Rattle.smp_kernel.proofs.OneRelation.{fewer_rows, without_one}
-use Rattle.smp_kernel.proofs.Ring.{*ℤ_assoc, positive_some, zero_of_product, zero_right}
-use Rattle.smp_kernel.proofs.SearchLaw.{together}
+use Rattle.smp_kernel.proofs.{FoundCircuits.{circuit_length, circuit_row, cut_circuit_short, in_row}, OneRelation.{fewer_rows, without_one}}
+use Rattle.smp_kernel.proofs.{Ring.{*ℤ_assoc, positive_some, zero_of_product, zero_right}, SearchLaw.{together}}
 use Rattle.smp_prob.specs.Shares.{Shares}
 use Rattle.smp_values.specs.Values.{fractional_units, is_fractional}
-use Rattle.smp_moves.specs.Ends.{end_of}
-use Rattle.smp_moves.specs.Kept.Ends.{IsOver}
-use Rattle.smp_moves.specs.Moves.{IsLine, IsOrder, Line, entry_at, entry_of}
+use Rattle.smp_moves.specs.{Ends.{end_of}, Kept.Ends.{IsOver}, Moves.{IsLine, IsOrder, Line, entry_at, entry_of}, Steps.{Finds}}
 use Rattle.smp_moves.proofs.Entries.{entry_at_none, entry_at_place, frame_order, off_line, on_line, order_within, place_or}
-use Rattle.smp_moves.proofs.LineEnds.{reached, settled_unit}
-use Rattle.smp_moves.proofs.Moved.{same_still}
-use Rattle.smp_flight.specs.Kept.Windows.{is_in}
-use Rattle.smp_moves.specs.Steps.{Finds}
-use Rattle.smp_flight.specs.Moves.{setting_of}
-use Rattle.smp_flight.specs.States.{Units, Flight, IsFlight, IsUnits, column, columns_of, size}
-use Rattle.smp_flight.specs.Laws.Nexts.{flight_over}
-use Rattle.smp_flight.specs.Laws.Firsts.{fractional_in, in_range}
+use Rattle.smp_moves.proofs.{LineEnds.{reached, settled_unit}, Moved.{same_still}}
+use Rattle.smp_flight.specs.{Kept.Windows.{is_in}, Moves.{setting_of}, States.{Units, Flight, IsFlight, IsUnits, column, columns_of, size}}
+use Rattle.smp_flight.specs.{Laws.Nexts.{flight_over}, Laws.Firsts.{fractional_in, in_range}, Laws.MoveTotals.{number_in, numbers_are}}
 use Rattle.smp_flight.proofs.Gained.{all_units, dot_scaled, map_same, part, part_is, unit_inside, units_apart}
-use Rattle.smp_flight.specs.Laws.MoveTotals.{number_in, numbers_are}
-use Rattle.smp_flight.specs.Laws.Reordered.{same_dot, sum_at}
-use Rattle.smp_flight.specs.Laws.Windowed.{in_or}
-use Rattle.smp_flight.specs.Laws.WholeOrders.{in_order_going}
+use Rattle.smp_flight.specs.{Laws.Reordered.{same_dot, sum_at}, Laws.Windowed.{in_or}, Laws.WholeOrders.{in_order_going}}
 
 -- ---- what is kept of some columns
 pub filter_in : (p : ℕ → Bool) (us : List ℕ) (k : ℕ) → is_in (filter p us) k ≡ (is_in us k && p k)

@@ -1,9 +1,7 @@
 -- What the values of a flight have gained since its start, over a common denominator of all shares: in each row in force it adds up to 0.
 use Rattle.std.proofs.Common.{◌≡◌, ◌≢◌, ℕ, suc, ◌+◌, ◌*◌, ◌/◌, ◌<◌, ◌≤◌, max, List, [], ◌∷◌, ℤ, pos, neg_ℤ, ◌+ℤ◌, ◌*ℤ◌, map, length, get_or, arith, refl, sym, ap, ap₂, ◌∙◌, suc-le-suc, mul-pos}
 use Rattle.std.specs.List.{AllPairs, range_with_len}
-use Rattle.std.proofs.lemmas.Int.{ints}
-use Rattle.std.proofs.lemmas.List.FromFn.{length-range_with_len, get_or-range_with_len}
-use Rattle.std.proofs.Math.Nat.{mul-div_cancel'}
+use Rattle.std.proofs.{lemmas.Int.{ints}, lemmas.List.FromFn.{length-range_with_len, get_or-range_with_len}, Math.Nat.{mul-div_cancel'}}
 use Prim.Native.Nat.{◌∣◌}
 use lib.IntN.{*ℤ-zero, zero-*ℤ}
 use Rattle.smp_frac.specs.Fractions.{Same, integer, over, plus, times}
@@ -11,10 +9,8 @@ use Rattle.smp_frac.proofs.Integers.{diff, by_diff, diffs, diff-same, same-diff}
 use Rattle.smp_kernel.specs.Vectors.{dot}
 use Rattle.smp_kernel.proofs.Ring.{*ℤ_assoc, +ℤ-*ℤ, *ℤ-+ℤ, sum_swap, zero_of_product}
 use Rattle.smp_prob.specs.Shares.{Shares}
-use Rattle.smp_moves.specs.declared.lines.Ratio.{Ratio}
-use Rattle.smp_moves.specs.Moves.{IsMoved, Line, entry_of}
-use Rattle.smp_flight.specs.States.{Units, IsUnits, size}
-use Rattle.smp_flight.specs.Laws.MoveTotals.{number_in}
+use Rattle.smp_moves.specs.{declared.lines.Ratio.{Ratio}, Moves.{IsMoved, Line, entry_of}}
+use Rattle.smp_flight.specs.{States.{Units, IsUnits, size}, Laws.MoveTotals.{number_in}}
 
 -- ---- products of lists
 

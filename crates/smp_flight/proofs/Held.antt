@@ -1,45 +1,24 @@
 -- The units that moves have changed: their columns stay independent, so where the numbers are small the denominator at an end of a move is too.
 use Rattle.std.proofs.Common.{◌≡◌, ◌≢◌, ℕ, suc, ◌*◌, ◌<◌, ◌≤◌, true, ◌⊎◌, List, ◌++◌, ℤ, pos, neg_ℤ, ◌*ℤ◌, take, length, get_or, arith, sym, ap, ◌∙◌, subst, inl, inr, mul-le-mul}
 use Rattle.std.specs.List.{AllPairs, filter}
-use Rattle.std.proofs.lemmas.Bool.{cases_lt}
-use Rattle.std.proofs.lemmas.Int.{ints}
-use Rattle.std.proofs.lemmas.List.Elements.{filter_passes}
-use Rattle.std.proofs.lemmas.List.Kept.{AllPairs-filter}
+use Rattle.std.proofs.{lemmas.Bool.{cases_lt}, lemmas.Int.{ints}, lemmas.List.Elements.{filter_passes}, lemmas.List.Kept.{AllPairs-filter}}
 use Rattle.smp_frac.specs.Limits.{most_denominator}
-use Rattle.smp_frac.proofs.Arithmetic.{cancel}
-use Rattle.smp_frac.proofs.Integers.{diff, by_diff, diffs, diff-same}
-use Rattle.smp_kernel.specs.Vectors.{entry}
-use Rattle.smp_kernel.specs.RowReduction.{cut, AreIndependent}
-use Rattle.smp_kernel.specs.Minors.{minor_limit}
-use Rattle.smp_kernel.specs.Searches.{found}
-use Rattle.smp_kernel.proofs.Ring.{positive_some, zero_or}
-use Rattle.smp_kernel.proofs.TableSizes.{limit_upto}
+use Rattle.smp_frac.proofs.{Arithmetic.{cancel}, Integers.{diff, by_diff, diffs, diff-same}}
+use Rattle.smp_kernel.specs.{Vectors.{entry}, RowReduction.{cut, AreIndependent}, Minors.{minor_limit}, Searches.{found}}
+use Rattle.smp_kernel.proofs.{Ring.{positive_some, zero_or}, TableSizes.{limit_upto}}
 use Rattle.smp_prob.specs.Shares.{Shares}
 use Rattle.smp_values.specs.Values.{fractional_units, is_fractional}
-use Rattle.smp_moves.specs.Ends.{end_of, extent}
-use Rattle.smp_moves.specs.Kept.Ends.{IsOver}
-use Rattle.smp_moves.specs.Moves.{IsGreatest, IsLine, IsMoved, IsOrder, Line, entry_of, turned}
-use Rattle.smp_moves.proofs.Entries.{entry_turned, frame_order, order_within, turned_line}
-use Rattle.smp_moves.proofs.LineEnds.{greatest, moved}
-use Rattle.smp_moves.proofs.Moved.{end_within, keeps_fractional, keeps_still}
-use Rattle.smp_flight.specs.Kept.Windows.{is_in}
-use Rattle.smp_flight.specs.Laws.Entries.{entry-sized, sized_entries}
-use Rattle.smp_flight.specs.Kept.Steps.{sized}
+use Rattle.smp_moves.specs.{Ends.{end_of, extent}, Kept.Ends.{IsOver}, Moves.{IsGreatest, IsLine, IsMoved, IsOrder, Line, entry_of, turned}}
+use Rattle.smp_moves.proofs.{Entries.{entry_turned, frame_order, order_within, turned_line}, LineEnds.{greatest, moved}}
+use Rattle.smp_moves.proofs.{Moved.{end_within, keeps_fractional, keeps_still}, Fixed.{one_greatest}}
+use Rattle.smp_flight.specs.{Kept.Windows.{is_in}, Laws.Entries.{entry-sized, sized_entries}, Kept.Steps.{sized}, Moves.{setting_of}}
 use Rattle.smp_kernel.specs.Reduced.{IsReduced}
-use Rattle.smp_flight.specs.Laws.Nexts.{direction_line, flight_over}
-use Rattle.smp_moves.specs.Steps.{Finds, IsDirection}
-use Rattle.smp_flight.specs.Moves.{setting_of}
-use Rattle.smp_flight.specs.Narrow.{IsNarrow, IsWideByDenominator}
-use Rattle.smp_flight.specs.States.{Units, Flight, IsFlight, IsUnits, columns_of, row_count, size}
-use Rattle.smp_flight.proofs.Denominators.{HasFree, IsTouched, small_denominator}
-use Rattle.smp_flight.specs.Laws.Firsts.{changed_in, fractional_in, in_front, within_front}
+use Rattle.smp_flight.specs.{Laws.Nexts.{direction_line, flight_over}, Narrow.{IsNarrow, IsWideByDenominator}, Laws.OneMove.{one_end}}
+use Rattle.smp_moves.specs.{Steps.{Finds, IsDirection}, declared.lines.Ratio.{Ratio}}
+use Rattle.smp_flight.specs.{States.{Units, Flight, IsFlight, IsUnits, columns_of, row_count, size}, Laws.Reordered.{independent_as}}
+use Rattle.smp_flight.proofs.{Denominators.{HasFree, IsTouched, small_denominator}, Gained.{AddsUp, still_adds}}
+use Rattle.smp_flight.specs.{Laws.Firsts.{changed_in, fractional_in, in_front, within_front}, Laws.WholeOrders.{in_order_going}}
 use Rattle.smp_flight.proofs.Free.{all_free, factor_some, front_free, in_filter, line_count, parts_add_up, place, its_relation}
-use Rattle.smp_flight.proofs.Gained.{AddsUp, still_adds}
-use Rattle.smp_flight.specs.Laws.OneMove.{one_end}
-use Rattle.smp_moves.proofs.Fixed.{one_greatest}
-use Rattle.smp_moves.specs.declared.lines.Ratio.{Ratio}
-use Rattle.smp_flight.specs.Laws.Reordered.{independent_as}
-use Rattle.smp_flight.specs.Laws.WholeOrders.{in_order_going}
 
 -- ---- the line of a circuit, or its opposite
 pub record IsAlong (units : Units) (order : List ℕ) (w : List ℤ) (line : Line) : Type 0 where

@@ -1,25 +1,14 @@
 -- Where the numbers of the units are small, no search is too wide and no entry of a direction passes its gate.
 use Rattle.std.proofs.Common.{◌≡◌, ℕ, zero, suc, ◌*◌, ◌<◌, ◌≤◌, List, [], ◌∷◌, ℤ, pos, ◌*ℤ◌, ◌<ℤ◌, length, length-take, take, get_or, get_or-take, arith, sym, ap, ◌∙◌, subst, inl, inr, suc-le-suc, zero-lt-suc, mul-le-mul}
-use Rattle.std.proofs.lemmas.Bool.{cases_lt}
-use Rattle.std.proofs.lemmas.Int.{ints, unsigned_abs-mul}
-use Rattle.std.proofs.lemmas.List.{get_or_past}
+use Rattle.std.proofs.{lemmas.Bool.{cases_lt}, lemmas.Int.{ints, unsigned_abs-mul}, lemmas.List.{get_or_past}}
 use Rattle.std.specs.Int.RustNames.{unsigned_abs}
 use Rattle.smp_frac.specs.Limits.{most_entry}
-use Rattle.smp_kernel.specs.Vectors.{entry, Within}
-use Rattle.smp_kernel.specs.RowReduction.{cut}
-use Rattle.smp_kernel.specs.Searches.{found}
-use Rattle.smp_kernel.specs.Minors.{IsFrom, AreFrom, minor_limit}
-use Rattle.smp_kernel.proofs.Limits.{entry_within, Within-from_entries}
-use Rattle.smp_kernel.proofs.TableSizes.{limit_upto}
-use Rattle.smp_kernel.proofs.SearchSizes.{found_within, not_too_wide}
-use Rattle.smp_moves.specs.Moves.{Line, IsOrder}
+use Rattle.smp_kernel.specs.{Vectors.{entry, Within}, RowReduction.{cut}, Searches.{found}, Minors.{IsFrom, AreFrom, minor_limit}}
+use Rattle.smp_kernel.proofs.{Limits.{entry_within, Within-from_entries}, TableSizes.{limit_upto}, SearchSizes.{found_within, not_too_wide}}
+use Rattle.smp_moves.specs.{Moves.{Line, IsOrder}, Steps.{Finds, IsDirection, IsWide}}
 use Rattle.smp_moves.proofs.Entries.{order_within}
-use Rattle.smp_flight.specs.States.{Units, Flight, IsFlight, IsUnits, column, columns_of, row_count, size}
-use Rattle.smp_moves.specs.Steps.{Finds, IsDirection, IsWide}
-use Rattle.smp_flight.specs.Moves.{setting_of}
-use Rattle.smp_flight.specs.Laws.Entries.{entry-sized, sized_entries}
-use Rattle.smp_flight.specs.Laws.Nexts.{narrow_line}
-use Rattle.smp_flight.specs.Narrow.{IsNarrow, IsWideByDenominator}
+use Rattle.smp_flight.specs.{States.{Units, Flight, IsFlight, IsUnits, column, columns_of, row_count, size}, Moves.{setting_of}}
+use Rattle.smp_flight.specs.{Laws.Entries.{entry-sized, sized_entries}, Laws.Nexts.{narrow_line}, Narrow.{IsNarrow, IsWideByDenominator}}
 
 -- ---- the direction
 reduced_at : (g x : ℤ) (s : ℕ) (y : ℤ) (z b : ℕ) → pos 0 <ℤ g → g *ℤ x ≡ pos s *ℤ y → s ≤ z → unsigned_abs y ≤ b → unsigned_abs x ≤ z * b

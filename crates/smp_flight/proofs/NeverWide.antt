@@ -3,35 +3,19 @@ use Rattle.std.proofs.Common.{◌≡◌, ◌≢◌, ℕ, suc, ◌-◌, ◌≤◌
 use Rattle.std.proofs.lemmas.List.{get_or_past}
 use Rattle.smp_kernel.specs.RowReduction.{cut, AreIndependent}
 use Rattle.smp_prob.specs.Shares.{Shares}
-use Rattle.smp_split.specs.Parts.{moved}
-use Rattle.smp_split.specs.Paths.{Entry, Leads}
-use Rattle.smp_split.specs.Trees.{Part, EachPart}
+use Rattle.smp_split.specs.{Parts.{moved}, Paths.{Entry, Leads}, Trees.{Part, EachPart}, Laws.Steps.{leads_belong, leads_keep}}
 use Rattle.smp_split.specs.declared.kind.Kind.TheVariants as kind
-use Rattle.smp_split.specs.Laws.Steps.{leads_belong, leads_keep}
 use Rattle.smp_values.specs.Values.{fractional_units, is_fractional, is_settled}
-use Rattle.smp_moves.specs.Cubes.{flying, pairing, values_in, flight_kind, flight_parts}
-use Rattle.smp_moves.specs.Kept.Computed.{dropped}
-use Rattle.smp_moves.specs.Ends.{end_of}
-use Rattle.smp_moves.specs.Moves.{IsOrder, Move, Next, chosen_line, entry_of, independent, move, turned, wide}
-use Rattle.smp_moves.proofs.Entries.{turned_line}
-use Rattle.smp_moves.proofs.Evens.{entry_of_turned}
-use Rattle.smp_flight.specs.Kept.Windows.{is_in}
-use Rattle.smp_flight.specs.Laws.Nexts.{IsKnown}
-use Rattle.smp_moves.specs.Steps.{IsNext}
-use Rattle.smp_flight.specs.Moves.{setting_of}
-use Rattle.smp_flight.specs.Narrow.{IsNarrow}
+use Rattle.smp_moves.specs.{Cubes.{flying, pairing, values_in, flight_kind, flight_parts}, Kept.Computed.{dropped}, Ends.{end_of}}
+use Rattle.smp_moves.specs.{Moves.{IsOrder, Move, Next, chosen_line, entry_of, independent, move, turned, wide}, Steps.{IsNext}}
+use Rattle.smp_moves.proofs.{Entries.{turned_line}, Evens.{entry_of_turned}}
+use Rattle.smp_flight.specs.{Kept.Windows.{is_in}, Laws.Nexts.{IsKnown}, Moves.{setting_of}, Narrow.{IsNarrow}, Laws.ByOrder.{some_row}}
 use Rattle.smp_flight.specs.Selections.{Balancing, GoesOn, IsBalancing, IsSelection, IsWholeOrder, Selection, chooses, flies, kind_by, parts_by, shares_cube, starting}
 use Rattle.smp_flight.specs.States as flights
-use Rattle.smp_flight.specs.States.{Units, Flight, IsFlight, IsUnits, columns_of, row_count}
-use Rattle.smp_flight.specs.Steps.{end_at_is, next_on, stepping}
-use Rattle.smp_flight.specs.Laws.ByOrder.{some_row}
-use Rattle.smp_flight.proofs.Free.{line_count}
-use Rattle.smp_flight.proofs.Gained.{start_adds}
-use Rattle.smp_flight.proofs.Held.{IsHeld, against_it, along_it, next_held, not_by_denominator}
-use Rattle.smp_flight.proofs.Narrow.{by_denominator}
-use Rattle.smp_flight.specs.Laws.NextProperties.{independent_columns, known, next_is}
-use Rattle.smp_flight.proofs.Seen.{each_unmoved}
-use Rattle.smp_flight.specs.Laws.WholeOrders.{independent_in_frame_order}
+use Rattle.smp_flight.specs.{States.{Units, Flight, IsFlight, IsUnits, columns_of, row_count}, Steps.{end_at_is, next_on, stepping}}
+use Rattle.smp_flight.proofs.{Free.{line_count}, Gained.{start_adds}, Held.{IsHeld, against_it, along_it, next_held, not_by_denominator}}
+use Rattle.smp_flight.proofs.{Narrow.{by_denominator}, Seen.{each_unmoved}}
+use Rattle.smp_flight.specs.{Laws.NextProperties.{independent_columns, known, next_is}, Laws.WholeOrders.{independent_in_frame_order}}
 
 each_both : {State : Type 0} (P Q R : Part State → Type 0) → ((p : Part State) → P p → Q p → R p) → (ps : List (Part State)) → EachPart P ps → EachPart Q ps → EachPart R ps
 each_both P Q R h [] a b = tt

@@ -2,32 +2,21 @@
 use Rattle.std.proofs.Common.{◌≡◌, ◌≢◌, ℕ, zero, suc, ◌*◌, ◌<◌, ◌≤◌, max, mul-pos, false, ℤ, List, [], ◌∷◌, length, get_or, arith, refl, sym, ap, ◌∙◌, subst, inl, inr}
 use Rattle.std.proofs.lemmas.Bool.{eqb-false}
 use Rattle.smp_frac.specs.Fractions.{Fraction, Same, integer, times, over}
-use Rattle.smp_frac.proofs.Arithmetic.{same_refl, sum_same, one-times}
-use Rattle.smp_frac.proofs.Integers.{diff-same, by_diff, diffs}
+use Rattle.smp_frac.proofs.{Arithmetic.{same_refl, sum_same, one-times}, Integers.{diff-same, by_diff, diffs}}
 use Rattle.smp_kernel.specs.Vectors.{entry}
-use Rattle.smp_split.specs.Trees.{EachPart}
-use Rattle.smp_split.specs.declared.kind.Kind.{Kind}
+use Rattle.smp_split.specs.{Trees.{EachPart}, declared.kind.Kind.{Kind}}
 use Rattle.smp_split.specs.declared.kind.Kind.TheVariants as kind
-use Rattle.smp_values.specs.Steps.{kind_on}
-use Rattle.smp_values.specs.Values.{fractional_count, fractional_units, is_fractional, is_settled, value_at}
-use Rattle.smp_moves.specs.Moves.{independent, Next, move, wide}
-use Rattle.smp_moves.specs.Balances.{Begins}
+use Rattle.smp_values.specs.{Steps.{kind_on}, Values.{fractional_count, fractional_units, is_fractional, is_settled, value_at}}
+use Rattle.smp_moves.specs.{Moves.{independent, Next, move, wide}, Balances.{Begins}, Steps.{IsNext, IsStuck}}
 use Rattle.smp_moves.specs.Owed.{HasKept, HasStayed, IsStart, Owes, weighed_total}
-use Rattle.smp_moves.proofs.Owed.{is_balanced}
+use Rattle.smp_moves.proofs.{Owed.{is_balanced}, Flights.{IsInFlight, flies_at, is_independent, is_wide, lands_at, later_at}}
 use Rattle.smp_moves.specs.Cubes.{flying, pairing, values_in, rows_in, left_in, flight_kind, flight_parts, HasIndependentColumns}
 use Rattle.smp_flight.specs.States as flights
-use Rattle.smp_flight.specs.States.{Units, Flight, IsFlight, column, size}
-use Rattle.smp_flight.specs.Steps.{next_on}
-use Rattle.smp_moves.specs.Steps.{IsNext, IsStuck}
-use Rattle.smp_moves.proofs.Flights.{IsInFlight, flies_at, is_independent, is_wide, lands_at, later_at}
-use Rattle.smp_flight.specs.Moves.{setting_of}
-use Rattle.smp_flight.specs.Totals.{expanded, addend, row_total}
+use Rattle.smp_flight.specs.{States.{Units, Flight, IsFlight, column, size}, Steps.{next_on}, Moves.{setting_of}}
+use Rattle.smp_flight.specs.{Totals.{expanded, addend, row_total}, Landings.{IsBalanced, weighed_of}}
 use Rattle.smp_flight.specs.Selections.{Balancing, GoesOn, IsBalancing, IsSelection, IsWholeOrder, Selection, chooses, flies, kind_by, parts_by, starting, shares_cube}
-use Rattle.smp_flight.specs.Landings.{IsBalanced, weighed_of}
-use Rattle.smp_flight.specs.Laws.ByOrder.{both_totals, few_fractional, values_ok}
-use Rattle.smp_flight.specs.Laws.NextProperties.{independent_columns, next_is}
-use Rattle.smp_flight.proofs.NeverWide.{KeepsFront, never_wide}
-use Rattle.smp_flight.proofs.Seen.{Flies, each_seen, each_so, each_unmoved, total_is}
+use Rattle.smp_flight.specs.{Laws.ByOrder.{both_totals, few_fractional, values_ok}, Laws.NextProperties.{independent_columns, next_is}}
+use Rattle.smp_flight.proofs.{NeverWide.{KeepsFront, never_wide}, Seen.{Flies, each_seen, each_so, each_unmoved, total_is}}
 use Rattle.smp_flight.proofs.Settled.{IsSettledAt, step_settled}
 use Rattle.smp_flight.specs.Laws.WholeOrders.{independent_in_frame_order}
 

@@ -1,16 +1,11 @@
 -- A direction by an array: only the entries of a row decide its reduced row.
 use Rattle.std.proofs.Common.{◌≡◌, ℕ, ◌<◌, ◌≤◌, ◌^◌, false, List, [], ◌∷◌, ℤ, pos, ◌*ℤ◌, map, take, length, get_or, arith, refl, sym, ap, ap₂, ◌∙◌, subst, inl, inr, length-take, get_or-take}
-use Rattle.std.proofs.lemmas.Bool.{cases_Bool}
-use Rattle.std.proofs.lemmas.List.{ext_get_or, length-map, get_or-map, take-take}
-use Rattle.smp_kernel.specs.Vectors.{entry, IsZero, Within}
-use Rattle.smp_kernel.specs.RowReduction.{cut}
-use Rattle.smp_kernel.specs.Reduced.{IsReduced, IsTooLong, primitive_part}
-use Rattle.smp_flight.specs.States.{Units, size, column, columns_of}
+use Rattle.std.proofs.{lemmas.Bool.{cases_Bool}, lemmas.List.{ext_get_or, length-map, get_or-map, take-take}}
+use Rattle.smp_kernel.specs.{Vectors.{entry, IsZero, Within}, RowReduction.{cut}, Reduced.{IsReduced, IsTooLong, primitive_part}}
+use Rattle.smp_flight.specs.{States.{Units, size, column, columns_of}, Kept.Steps.{direction, sized}}
 use Rattle.smp_moves.specs.Ends.{entries_fit}
-use Rattle.smp_flight.specs.Kept.Steps.{direction, sized}
 use Rattle.smp_flight.specs.Laws.Entries.{length-sized, entry-sized}
-use Rattle.smp_moves.proofs.Weights.{within_from}
-use Rattle.smp_moves.proofs.FirstPlaces.{front_is, front_long}
+use Rattle.smp_moves.proofs.{Weights.{within_from}, FirstPlaces.{front_is, front_long}}
 
 -- ---- arrays as lists
 

@@ -1,16 +1,11 @@
 -- Bounds of the rows, and what they come to.
 use Rattle.std.proofs.Common.{◌≡◌, ◌^◌, ℕ, zero, suc, ◌+◌, ◌*◌, ◌<◌, ◌≤◌, max, List, ℤ, pos, ◌≤ℤ◌, length, get_or, arith, inl, inr, mul-le-mul}
 use Rattle.std.specs.Int.RustNames.{unsigned_abs}
-use Rattle.std.proofs.lemmas.Bool.{cases_lt}
-use Rattle.std.proofs.lemmas.Int.{ints}
-use Rattle.std.proofs.lemmas.List.{get_or_past}
+use Rattle.std.proofs.{lemmas.Bool.{cases_lt}, lemmas.Int.{ints}, lemmas.List.{get_or_past}, lemmas.Nat.Gcd.{le_of_dvd}}
 use Rattle.smp_frac.specs.Limits.{most_denominator, most_entry}
-use Rattle.std.proofs.lemmas.Nat.Gcd.{le_of_dvd}
 use Rattle.smp_kernel.proofs.TableSizes.{limit_upto}
-use Rattle.smp_kernel.specs.Minors.{minor_limit, product_below, sign_count}
-use Rattle.smp_kernel.specs.Vectors.{entry}
-use Rattle.smp_flight.specs.Kept.Narrow.{HasNegative, IsCommon, IsLeast, IsRowBound}
-use Rattle.smp_flight.specs.Narrow.{IsNarrow}
+use Rattle.smp_kernel.specs.{Minors.{minor_limit, product_below, sign_count}, Vectors.{entry}}
+use Rattle.smp_flight.specs.{Kept.Narrow.{HasNegative, IsCommon, IsLeast, IsRowBound}, Narrow.{IsNarrow}}
 use Rattle.smp_flight.specs.States.{Units, IsUnits, column, row_count}
 
 -- a row more: from the third on times its number, for half of the permutations

@@ -2,29 +2,18 @@
 use Rattle.std.proofs.Common.{◌≡◌, ℕ, ◌+◌, ◌≤◌, ◌^◌, false, List, ℤ, pos, take, length, arith, refl, sym, ap, ◌∙◌, subst, length-take}
 use Rattle.std.proofs.lemmas.List.{take-take}
 use Rattle.std.specs.Int.RustNames.{unsigned_abs}
-use Rattle.smp_kernel.specs.Vectors.{entry, IsZero, Within}
-use Rattle.smp_kernel.specs.Searches.{found}
-use Rattle.smp_moves.specs.Kept.Searches.{search, search_is}
+use Rattle.smp_kernel.specs.{Vectors.{entry, IsZero, Within}, Searches.{found}}
+use Rattle.smp_moves.specs.{Kept.Searches.{search, search_is}, Moves.{IsLine, IsOrder, move, wide}, Ends.{entries_fit}, Steps.{Finds}}
 use Rattle.smp_values.specs.Values.{fractional_units}
 use Rattle.smp_values.proofs.Units.{fractional_units_length}
-use Rattle.smp_flight.specs.States.{AreFirst, Flight, IsFlight, Tracked, Units, columns_of}
-use Rattle.smp_moves.specs.Moves.{IsLine, IsOrder, move, wide}
-use Rattle.smp_moves.specs.Ends.{entries_fit}
-use Rattle.smp_flight.specs.Steps.{next_on, next}
-use Rattle.smp_flight.specs.Kept.Steps.{direction, next_along, next_of, next_by, sized}
-use Rattle.smp_moves.specs.Steps.{Finds}
-use Rattle.smp_flight.specs.Moves.{setting_of}
-use Rattle.smp_flight.specs.Answers.{Allows, AreSearched, IsFirstMove, IsMoveOf, answer_of, move_of, IsKeptIn}
-use Rattle.smp_flight.specs.declared.steps.Next.{Next as Answer}
+use Rattle.smp_flight.specs.{States.{AreFirst, Flight, IsFlight, Tracked, Units, columns_of}, Steps.{next_on, next}, Moves.{setting_of}}
+use Rattle.smp_flight.specs.{Kept.Steps.{direction, next_along, next_of, next_by, sized}, declared.steps.Next.{Next as Answer}}
+use Rattle.smp_flight.specs.{Answers.{Allows, AreSearched, IsFirstMove, IsMoveOf, answer_of, move_of, IsKeptIn}, Laws.Firsts.{from_each}}
 use Rattle.smp_flight.specs.declared.steps.Next.TheVariants as answers
-use Rattle.smp_moves.proofs.Entries.{frame_order, order_front}
-use Rattle.smp_moves.proofs.FirstPlaces.{front_small}
-use Rattle.smp_flight.specs.Laws.Firsts.{from_each}
+use Rattle.smp_moves.proofs.{Entries.{frame_order, order_front}, FirstPlaces.{front_small}, Computed.{circuit_within}}
 use Rattle.smp_flight.proofs.Fitting.{moves_within}
-use Rattle.smp_flight.specs.Laws.Reordered.{independent_in_frame}
-use Rattle.smp_flight.specs.Laws.NextProperties.{independent_columns, known, next_on_front}
+use Rattle.smp_flight.specs.{Laws.Reordered.{independent_in_frame}, Laws.NextProperties.{independent_columns, known, next_on_front}}
 use Rattle.smp_flight.specs.Laws.Nexts.{direction_sized, line_ok, some_sized}
-use Rattle.smp_moves.proofs.Computed.{circuit_within}
 
 -- the circuit in the first places of an array, and its line
 pub record IsCircuitOf (units : Units) (s : Flight) (us : List ℕ) (number : ℕ) (w : List ℤ) (n : ℕ) : Type 0 where

@@ -1,12 +1,9 @@
 -- What the steps of flight and landing keep, each selection keeps that goes by such steps.
 use Rattle.std.proofs.Common.{◌≡◌, ℕ, List, [], ◌∷◌, refl, sym, subst}
-use Rattle.smp_split.specs.Parts.{moved}
-use Rattle.smp_split.specs.Trees.{Part, EachPart}
-use Rattle.smp_moves.specs.Owed.{weighed_total}
-use Rattle.smp_moves.specs.Cubes.{values_in}
-use Rattle.smp_flight.specs.Landings.{weighed_of}
+use Rattle.smp_split.specs.{Parts.{moved}, Trees.{Part, EachPart}}
+use Rattle.smp_moves.specs.{Owed.{weighed_total}, Cubes.{values_in}}
+use Rattle.smp_flight.specs.{Landings.{weighed_of}, Totals.{row_total}}
 use Rattle.smp_flight.specs.Selections.{Balancing, GoesOn, IsSelection, IsWholeOrder, Selection, chooses, flies, kind_by, parts_by}
-use Rattle.smp_flight.specs.Totals.{row_total}
 
 pub each_so : {State : Type 0} (P Q : Part State → Type 0) → ((p : Part State) → P p → Q p) → (ps : List (Part State)) → EachPart P ps → EachPart Q ps
 each_so P Q h [] each = tt

@@ -1,21 +1,16 @@
 -- A unit whose value is 0 or 1 keeps it, whichever order the search goes in.
 use Rattle.std.proofs.Common.{◌≡◌, ◌≢◌, ℕ, ◌<◌, Bool, true, false, List, [], ◌∷◌, set, length, get_or, arith, refl, sym, ap, ◌∙◌, subst, inl, inr}
-use Rattle.std.proofs.lemmas.Bool.{cases_Bool, true≢false}
-use Rattle.std.proofs.lemmas.List.{get_or-set_other}
+use Rattle.std.proofs.{lemmas.Bool.{cases_Bool, true≢false}, lemmas.List.{get_or-set_other}}
 use Rattle.smp_frac.specs.Fractions.{Fraction, Same, over}
 use Rattle.smp_frac.proofs.Arithmetic.{same_refl, same_trans, plus_same, plus-zero, times-zero}
 use Rattle.smp_prob.specs.Shares.{Shares}
-use Rattle.smp_split.specs.Trees.{EachPart}
-use Rattle.smp_split.specs.Laws.Parts.{each_moved}
-use Rattle.smp_values.specs.Steps.{parts_on, pivotal_parts}
-use Rattle.smp_values.specs.Values.{fractional, fractional_units, is_fractional, value_at}
+use Rattle.smp_split.specs.{Trees.{EachPart}, Laws.Parts.{each_moved}}
+use Rattle.smp_values.specs.{Steps.{parts_on, pivotal_parts}, Values.{fractional, fractional_units, is_fractional, value_at}}
 use Rattle.smp_moves.specs.Cubes.{flying, pairing, values_in, flight_parts}
-use Rattle.smp_flight.specs.States.{Units, Flight, IsFlight}
+use Rattle.smp_flight.specs.{States.{Units, Flight, IsFlight}, Steps.{next_on, chosen}, Laws.ByOrder.{ends_at}}
 use Rattle.smp_moves.specs.Moves.{Move, fraction_of, independent, IsOrder, Next, move, wide, chosen_line, chosen_extent}
-use Rattle.smp_flight.specs.Steps.{next_on, chosen}
 use Rattle.smp_moves.proofs.Entries.{frame_order, off_line, order_going, place_or}
 use Rattle.smp_flight.specs.Selections.{Balancing, IsBalancing, IsWholeOrder, parts_by, shares_cube}
-use Rattle.smp_flight.specs.Laws.ByOrder.{ends_at}
 
 -- the unit k has the value v for good
 pub record IsSettledAt (k : ℕ) (v : Fraction) (s : Shares) : Type 0 where

@@ -1,20 +1,14 @@
 -- What the numbers at the end of a line have in common: the units that are neither in the window nor on the line have no part in it, since their
 -- numerators there are multiples of the common denominator over the requested one.
 use Rattle.std.proofs.Common.{◌≡◌, ℕ, ◌+◌, ◌*◌, ◌/◌, ◌<◌, ◌≤◌, false, List, pos, length, get_or, arith, sym, ap, ap₂, ◌∙◌, subst, inl, inr}
-use Rattle.std.proofs.lemmas.Bool.{cases_Bool, cases_eq}
-use Rattle.std.proofs.lemmas.Nat.Gcd.{dvd_refl, dvd_trans, dvd_antisymm}
+use Rattle.std.proofs.{lemmas.Bool.{cases_Bool, cases_eq}, lemmas.Nat.Gcd.{dvd_refl, dvd_trans, dvd_antisymm}}
 use Rattle.std.proofs.Math.Nat.{dvd-mul_left, mul-div_cancel_left}
 use Prim.Native.Nat.{◌∣◌}
-use Rattle.smp_frac.specs.Divisors.{greatest_common_divisor}
-use Rattle.smp_frac.specs.Laws.Gcds.{IsGcd-greatest_common_divisor}
-use Rattle.smp_moves.specs.declared.reaches.Reach.{Reach}
-use Rattle.smp_moves.specs.Moves.{Line, IsLine, entry_of}
-use Rattle.smp_flight.specs.declared.ends.End.{End}
+use Rattle.smp_frac.specs.{Divisors.{greatest_common_divisor}, Laws.Gcds.{IsGcd-greatest_common_divisor}}
+use Rattle.smp_moves.specs.{declared.reaches.Reach.{Reach}, Moves.{Line, IsLine, entry_of}}
+use Rattle.smp_flight.specs.{declared.ends.End.{End}, Kept.Windows.{Windowed, is_in, shares_in}, Kept.Ends.{IsEndOf}}
 use Rattle.smp_moves.specs.Ends.{advanced, advanced_numbers, common_factor, reach}
-use Rattle.smp_flight.specs.Kept.Windows.{Windowed, is_in, shares_in}
-use Rattle.smp_flight.specs.Kept.Ends.{IsEndOf}
-use Rattle.smp_moves.proofs.Entries.{off_line, place_or}
-use Rattle.smp_moves.proofs.LineEnds.{divides_first, divides_each, divides_common}
+use Rattle.smp_moves.proofs.{Entries.{off_line, place_or}, LineEnds.{divides_first, divides_each, divides_common}}
 use Rattle.smp_moves.proofs.Places.{advanced_at, length_advanced}
 use Rattle.smp_flight.proofs.Advancing.{advanced_none}
 use Rattle.smp_flight.specs.Laws.Windowed.{in_or, get_or-numerators_over, length-numerators_over, over_out}

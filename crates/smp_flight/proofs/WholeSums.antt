@@ -3,21 +3,12 @@ use Rattle.std.proofs.Common.{◌≡◌, ◌≢◌, ℕ, ◌^◌, ◌≤◌, tru
 use Rattle.std.proofs.lemmas.Bool.{cases_eq, eqb-false}
 use Rattle.smp_frac.specs.Fractions.{Fraction, Same, whole}
 use Rattle.smp_frac.proofs.Arithmetic.{same_refl, same_trans}
-use Rattle.smp_split.specs.Counts.{AddsUp, LeavesSelect, selected_count}
-use Rattle.smp_split.specs.Trees.{EachPart}
-use Rattle.smp_split.proofs.Counts.{leaves_select}
-use Rattle.smp_split.specs.Laws.Parts.{each_moved}
-use Rattle.smp_split.proofs.Sums.{list_adds}
-use Rattle.smp_values.specs.Steps.{pivotal_parts, steps_tree}
-use Rattle.smp_values.specs.Values.{AddTo, fractional_at, fractional_count, is_settled, value_at}
-use Rattle.smp_values.proofs.Pivotal.{steps_count}
-use Rattle.smp_values.proofs.Sums.{lone_never}
-use Rattle.smp_values.proofs.Units.{fractional_at_is}
-use Rattle.smp_moves.specs.Cubes.{flying, pairing, values_in, rows_in, flight_parts}
-use Rattle.smp_flight.specs.States.{Units, Flight, IsFlight}
-use Rattle.smp_moves.specs.Moves.{Next, move, independent, wide}
-use Rattle.smp_flight.specs.Steps.{next_on}
-use Rattle.smp_flight.specs.Totals.{row_total}
+use Rattle.smp_split.specs.{Counts.{AddsUp, LeavesSelect, selected_count}, Trees.{EachPart}, Laws.Parts.{each_moved}}
+use Rattle.smp_split.proofs.{Counts.{leaves_select}, Sums.{list_adds}}
+use Rattle.smp_values.specs.{Steps.{pivotal_parts, steps_tree}, Values.{AddTo, fractional_at, fractional_count, is_settled, value_at}}
+use Rattle.smp_values.proofs.{Pivotal.{steps_count}, Sums.{lone_never}, Units.{fractional_at_is}}
+use Rattle.smp_moves.specs.{Cubes.{flying, pairing, values_in, rows_in, flight_parts}, Moves.{Next, move, independent, wide}}
+use Rattle.smp_flight.specs.{States.{Units, Flight, IsFlight}, Steps.{next_on}, Totals.{row_total}}
 use Rattle.smp_flight.specs.Selections.{Balancing, IsBalancing, IsSelection, IsWholeOrder, Selection, parts_by, shares_cube}
 use Rattle.smp_flight.specs.Laws.ByOrder.{both_totals, few_fractional, values_ok}
 use Rattle.smp_flight.proofs.Seen.{each_seen, total_is}

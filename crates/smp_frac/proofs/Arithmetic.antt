@@ -1,7 +1,6 @@
 -- The laws of fractions.
 use Rattle.std.proofs.Common.{◌≡◌, ◌≢◌, ℕ, zero, suc, ◌+◌, ◌*◌, ◌/◌, ◌<◌, ◌≤◌, max, ℤ, pos, negsuc, arith, refl, sym, ap, ◌∙◌}
-use Rattle.std.proofs.Math.Nat.{mul-div_cancel}
-use Rattle.std.proofs.lemmas.Int.{ints}
+use Rattle.std.proofs.{Math.Nat.{mul-div_cancel}, lemmas.Int.{ints}}
 use Rattle.smp_frac.specs.Fractions.{Fraction, Same, positive_product, whole, negated, plus, minus, times, divided, over, over_integer, inverse, sum_below}
 use Rattle.smp_frac.proofs.Integers.{diff, diff-same, same-diff, by_diff, diffs}
 

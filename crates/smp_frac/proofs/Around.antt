@@ -1,11 +1,8 @@
 -- The strict order of fractions, and the whole numbers around a fraction.
-use Rattle.std.proofs.Common.{◌≡◌, ℕ, ◌+◌, ◌*◌, ◌<◌, ◌≤◌, max, ◌<ℤ◌, arith, ap}
-use Rattle.std.proofs.lemmas.Int.{ints}
+use Rattle.std.proofs.{Common.{◌≡◌, ℕ, ◌+◌, ◌*◌, ◌<◌, ◌≤◌, max, ◌<ℤ◌, arith, ap}, lemmas.Int.{ints}}
 use Rattle.std.proofs.Math.Nat.{mul-lt-mul_of_pos_right, lt_of_mul-lt-mul_right}
-use Rattle.smp_frac.specs.Fractions.{Fraction, Same, LessThan, whole, plus, over}
-use Rattle.smp_frac.specs.Bounds.{IsAround}
-use Rattle.smp_frac.proofs.Signs.{by_parts, diff-lt, lt-diff}
-use Rattle.smp_frac.proofs.Arithmetic.{same_refl, same_sym, plus_same}
+use Rattle.smp_frac.specs.{Fractions.{Fraction, Same, LessThan, whole, plus, over}, Bounds.{IsAround}}
+use Rattle.smp_frac.proofs.{Signs.{by_parts, diff-lt, lt-diff}, Arithmetic.{same_refl, same_sym, plus_same}}
 use Rattle.smp_frac.proofs.Integers.{diff, same-diff, diffs}
 
 abbrev apart : ℕ → ℕ → (d : ℕ) → 1 ≤ d → Fraction

@@ -1,12 +1,9 @@
 -- Sums that differ by at most a bound.
-use Rattle.std.proofs.Common.{◌≡◌, ℕ, zero, suc, ◌+◌, ◌*◌, ◌<◌, ◌≤◌, max, ℤ, pos, negsuc, ◌≤ℤ◌, arith, sym, subst}
-use Rattle.std.proofs.lemmas.Int.{ints}
+use Rattle.std.proofs.{Common.{◌≡◌, ℕ, zero, suc, ◌+◌, ◌*◌, ◌<◌, ◌≤◌, max, ℤ, pos, negsuc, ◌≤ℤ◌, arith, sym, subst}, lemmas.Int.{ints}}
 use Rattle.std.proofs.Math.Nat.{mul-le-mul_left, mul-le-mul_right, le_of_mul-le-mul_right}
-use Rattle.smp_frac.specs.Fractions.{Fraction, Same, AtMost, whole, plus, times, over, sum_below}
-use Rattle.smp_frac.proofs.Arithmetic.{same_refl, same_sym, plus_same, plus_swap, plus-zero}
-use Rattle.smp_frac.proofs.Integers.{diff, pos-diff, diffs}
+use Rattle.smp_frac.specs.{Fractions.{Fraction, Same, AtMost, whole, plus, times, over, sum_below}, Bounds.{absolute, DifferByAtMost}}
+use Rattle.smp_frac.proofs.{Arithmetic.{same_refl, same_sym, plus_same, plus_swap, plus-zero}, Integers.{diff, pos-diff, diffs}}
 use Rattle.smp_frac.proofs.Signs.{by_parts, diff-le, le-diff, neg-diff}
-use Rattle.smp_frac.specs.Bounds.{absolute, DifferByAtMost}
 
 abbrev apart : ℕ → ℕ → (d : ℕ) → 1 ≤ d → Fraction
 apart p p' d h = record { num = diff p p'; den = d; positive = h }

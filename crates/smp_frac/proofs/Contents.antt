@@ -1,8 +1,6 @@
 -- The common divisor of one entry more.
-use Rattle.std.proofs.Common.{ℕ, ◌+◌, ◌≡◌, List, ℤ, pos, get_or, arith, sym, subst, below_more}
-use Rattle.std.specs.Int.RustNames.{unsigned_abs}
-use Rattle.std.specs.Int.{IsGcd}
-use Rattle.std.proofs.lemmas.Nat.Gcd.{dvd_trans}
+use Rattle.std.proofs.{Common.{ℕ, ◌+◌, ◌≡◌, List, ℤ, pos, get_or, arith, sym, subst, below_more}, lemmas.Nat.Gcd.{dvd_trans}}
+use Rattle.std.specs.{Int.RustNames.{unsigned_abs}, Int.{IsGcd}}
 use Rattle.smp_frac.specs.Divisors.{IsContentOfFirst}
 use Prim.Native.Nat.{◌∣◌}
 

@@ -1,12 +1,7 @@
 -- Decimal digits, and the number that they write.
 use Rattle.std.proofs.Common.{◌≡◌, ℕ, zero, suc, ◌+◌, ◌-◌, ◌*◌, ◌^◌, ◌<◌, ◌≤◌, ◌&&◌, Bool, cond, List, [], ◌∷◌, Some, None, Err, length, get_or, take, nat_lt, sym, ap, ◌∙◌, true, rules, arith, inl, inr}
-use Rattle.std.specs.List.{list_all}
-use Rattle.std.specs.Char.{is_ascii_digit, digit_value}
-use Rattle.std.specs.Str.{IsUtf8}
-use Rattle.std.specs.Str.Parse.{digits_value, ParsesUnsigned}
-use Rattle.std.proofs.lemmas.Bool.{cases_Bool}
-use Rattle.std.proofs.lemmas.Bool.Decides.{nat_tests}
-use Rattle.std.proofs.lemmas.Int.Digits.{digits_value_more}
+use Rattle.std.specs.{List.{list_all}, Char.{is_ascii_digit, digit_value}, Str.{IsUtf8}, Str.Parse.{digits_value, ParsesUnsigned}}
+use Rattle.std.proofs.{lemmas.Bool.{cases_Bool}, lemmas.Bool.Decides.{nat_tests}, lemmas.Int.Digits.{digits_value_more}}
 use Rattle.std.proofs.lemmas.Str.Parse.{IsNumeralModel, numerals_by_value, parse_digits, digits_value_short, digits_value-take-le}
 use Rattle.smp_frac.specs.Decimals.{is_decimal, number_below}
 use Rattle.smp_frac.proofs.Ascii.{both, IsUtf8-from_test}

@@ -1,6 +1,5 @@
 -- Integers as formal differences `diff p n`, at which an identity is one over ℕ that `omega` multiplies out.
-use Rattle.std.proofs.Common.{◌≡◌, ℕ, ◌+◌, ◌*◌, ℤ, pos, ◌+ℤ◌, ◌-ℤ◌, ◌*ℤ◌, neg_ℤ, arith, ap, subst}
-use Rattle.std.proofs.lemmas.Int.{ints}
+use Rattle.std.proofs.{Common.{◌≡◌, ℕ, ◌+◌, ◌*◌, ℤ, pos, ◌+ℤ◌, ◌-ℤ◌, ◌*ℤ◌, neg_ℤ, arith, ap, subst}, lemmas.Int.{ints}}
 use borrow.Author.Differences.{up, down, same_in}
 
 pub diff : ℕ → ℕ → ℤ

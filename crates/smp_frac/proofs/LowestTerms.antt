@@ -1,19 +1,10 @@
 -- Lowest terms have the value of the fraction, and no greater numbers.
-use Rattle.std.proofs.Common.{◌≡◌, ℕ, ◌*◌, ◌/◌, ◌≤◌, max, pos, arith, ap}
-use Rattle.std.proofs.Math.Nat.{div-le_self, div-mul-le_self}
-use Rattle.std.proofs.lemmas.Nat.{le-div}
+use Rattle.std.proofs.{Common.{◌≡◌, ℕ, ◌*◌, ◌/◌, ◌≤◌, max, pos, arith, ap}, Math.Nat.{div-le_self, div-mul-le_self}, lemmas.Nat.{le-div}}
 use Rattle.std.specs.Prelude.{unsigned_abs}
-use Rattle.smp_frac.specs.Bounds.{absolute}
-use Rattle.smp_frac.specs.Fractions.{Fraction, Same, over, positive_max}
-use Rattle.smp_frac.proofs.Arithmetic.{same_sym, same_trans}
-use Rattle.smp_frac.specs.declared.fractions.Frac.{Frac}
-use Rattle.smp_frac.specs.Divisors.{greatest_common_divisor}
-use Rattle.smp_frac.specs.Exact.{fraction}
-use Rattle.smp_frac.specs.LowestTerms.{lowest_terms}
-use Rattle.smp_frac.specs.Laws.Coprime.{divisor_positive, part_positive}
-use Rattle.smp_frac.specs.Laws.Gcds.{IsGcd-greatest_common_divisor}
-use Rattle.smp_frac.specs.Laws.Lowest.{same_value}
-use Rattle.smp_frac.proofs.Unique.{same_frac}
+use Rattle.smp_frac.specs.{Bounds.{absolute}, Fractions.{Fraction, Same, over, positive_max}, declared.fractions.Frac.{Frac}}
+use Rattle.smp_frac.proofs.{Arithmetic.{same_sym, same_trans}, Unique.{same_frac}}
+use Rattle.smp_frac.specs.{Divisors.{greatest_common_divisor}, Exact.{fraction}, LowestTerms.{lowest_terms}, Laws.Lowest.{same_value}}
+use Rattle.smp_frac.specs.{Laws.Coprime.{divisor_positive, part_positive}, Laws.Gcds.{IsGcd-greatest_common_divisor}}
 
 pub lowest_terms-value : (a : Fraction) → Same (fraction (lowest_terms a)) (absolute a)
 unfolding lowest_terms

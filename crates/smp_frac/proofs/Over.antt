@@ -1,9 +1,7 @@
 -- Numerators over a denominator.
-use Rattle.std.proofs.Common.{◌≡◌, ℕ, ◌+◌, ◌*◌, ◌≤◌, max, pos, arith, ap, ◌∙◌}
-use Rattle.std.proofs.lemmas.Int.{ints}
+use Rattle.std.proofs.{Common.{◌≡◌, ℕ, ◌+◌, ◌*◌, ◌≤◌, max, pos, arith, ap, ◌∙◌}, lemmas.Int.{ints}}
 use Rattle.smp_frac.specs.Fractions.{Same, whole, plus, times, over}
-use Rattle.smp_frac.proofs.Arithmetic.{same_sym}
-use Rattle.smp_frac.proofs.Integers.{diff-same, diffs}
+use Rattle.smp_frac.proofs.{Arithmetic.{same_sym}, Integers.{diff-same, diffs}}
 
 pub zero-over : (d : ℕ) → Same (whole 0) (over 0 d)
 zero-over d = record { cross = simp diffs (diff-same _ _ _ _ (omega arith)) }

@@ -1,11 +1,8 @@
 -- Products of fractions, reduced across before they are multiplied.
-use Rattle.std.proofs.Common.{◌≡◌, ℕ, ◌*◌, ◌/◌, ◌<◌, ◌≤◌, arith, ap₂, sym, ◌∙◌, subst, mul-pos}
+use Rattle.std.proofs.{Common.{◌≡◌, ℕ, ◌*◌, ◌/◌, ◌<◌, ◌≤◌, arith, ap₂, sym, ◌∙◌, subst, mul-pos}, lemmas.Nat.Gcd.{IsGcd-swap}}
 use Rattle.std.specs.Int.{IsGcd}
-use Rattle.std.proofs.lemmas.Nat.Gcd.{IsGcd-swap}
 use Rattle.std.proofs.Math.Nat.{mul-div_cancel', mul-div_cancel_left}
-use Rattle.smp_frac.specs.declared.fractions.Frac.{Frac}
-use Rattle.smp_frac.specs.Divisors.{greatest_common_divisor}
-use Rattle.smp_frac.specs.Laws.Gcds.{greatest_from_IsGcd}
+use Rattle.smp_frac.specs.{declared.fractions.Frac.{Frac}, Divisors.{greatest_common_divisor}, Laws.Gcds.{greatest_from_IsGcd}}
 use Rattle.smp_frac.specs.Laws.Coprime.{coprime_divisors, coprime_product, coprime_parts, quotient_divides, part_positive, divisor_positive, IsGcd-times}
 use Rattle.smp_frac.specs.Laws.Lowest.{lowest_from_coprime, coprime_from_lowest, same_value}
 

@@ -1,6 +1,5 @@
 -- The order of integers that are formal differences, and of fractions, over the natural numbers.
-use Rattle.std.proofs.Common.{◌≡◌, ℕ, suc, ◌+◌, ◌*◌, ◌<◌, ◌≤◌, max, pos, negsuc, ◌+ℤ◌, ◌≤ℤ◌, ◌<ℤ◌, arith, sym, ap, ◌∙◌}
-use Rattle.std.proofs.lemmas.Int.{ints}
+use Rattle.std.proofs.{Common.{◌≡◌, ℕ, suc, ◌+◌, ◌*◌, ◌<◌, ◌≤◌, max, pos, negsuc, ◌+ℤ◌, ◌≤ℤ◌, ◌<ℤ◌, arith, sym, ap, ◌∙◌}, lemmas.Int.{ints}}
 use Rattle.std.proofs.Math.Nat.{mul-le-mul_right, le_of_mul-le-mul_right}
 use Rattle.smp_frac.specs.Fractions.{Fraction, Same, AtMost, whole, over}
 use Rattle.smp_frac.proofs.Integers.{diff, diff-add, diff-same, same-diff, by_diff, diffs, pos-diff}

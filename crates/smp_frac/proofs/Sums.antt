@@ -1,16 +1,11 @@
 -- Sums and differences of fractions over the least common multiple of their denominators.
-use Rattle.std.proofs.Common.{◌≡◌, ℕ, ◌+◌, ◌*◌, ◌/◌, ◌≤◌, pos, arith, ap, sym, ◌∙◌, subst, inl, inr, mul_comm}
+use Rattle.std.proofs.{Common.{◌≡◌, ℕ, ◌+◌, ◌*◌, ◌/◌, ◌≤◌, pos, arith, ap, sym, ◌∙◌, subst, inl, inr, mul_comm}, lemmas.Bool.{cases_lt}}
 use Rattle.std.specs.Int.{IsGcd, abs_diff}
-use Rattle.std.proofs.lemmas.Bool.{cases_lt}
-use Rattle.std.proofs.lemmas.Nat.Gcd.{IsGcd-swap}
-use Rattle.std.proofs.Math.Nat.{mul-div_cancel', dvd-add}
+use Rattle.std.proofs.{lemmas.Nat.Gcd.{IsGcd-swap}, Math.Nat.{mul-div_cancel', dvd-add}}
 use Prim.Native.Nat.{◌∣◌}
-use Rattle.smp_frac.specs.Fractions.{Same, positive_product, over, plus}
+use Rattle.smp_frac.specs.{Fractions.{Same, positive_product, over, plus}, Exact.{fraction}, Laws.Lowest.{coprime_from_lowest, same_value}}
 use Rattle.smp_frac.proofs.Over.{cross_from_over}
-use Rattle.smp_frac.specs.Exact.{fraction}
-use Rattle.smp_frac.specs.Laws.Coprime.{part_positive, terms_apart, dvd_first, dvd_second}
-use Rattle.smp_frac.specs.Laws.Lowest.{coprime_from_lowest, same_value}
-use Rattle.smp_frac.specs.declared.fractions.Frac.{Frac}
+use Rattle.smp_frac.specs.{Laws.Coprime.{part_positive, terms_apart, dvd_first, dvd_second}, declared.fractions.Frac.{Frac}}
 
 -- the numerator of a sum has no divisor in common with what the denominators have beside their own
 sum_apart : (a b c d g : ℕ) → 1 ≤ d → IsGcd a b 1 → IsGcd b d g → IsGcd (a * (d / g) + c * (b / g)) (b / g) 1

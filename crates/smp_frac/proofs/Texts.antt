@@ -1,19 +1,11 @@
 -- Fractions of the same value have the same text.
-use Rattle.std.proofs.Common.{◌≡◌, ℕ, suc, ◌*◌, ◌/◌, ◌≤◌, ◌++◌, ℤ, pos, negsuc, arith, ap, mul-pos}
-use Rattle.std.specs.Prelude.{codes}
-use Rattle.std.specs.Fmt.{decimal}
-use Rattle.std.specs.Int.{IsGcd}
-use Rattle.std.proofs.Math.Nat.{mul-div_cancel'}
+use Rattle.std.proofs.{Common.{◌≡◌, ℕ, suc, ◌*◌, ◌/◌, ◌≤◌, ◌++◌, ℤ, pos, negsuc, arith, ap, mul-pos}, Math.Nat.{mul-div_cancel'}}
+use Rattle.std.specs.{Prelude.{codes}, Fmt.{decimal}, Int.{IsGcd}}
 use Rattle.std.proofs.lemmas.Int.{ints}
-use Rattle.smp_frac.specs.Fractions.{Fraction, Same, positive_product}
-use Rattle.smp_frac.proofs.Arithmetic.{cancel}
-use Rattle.smp_frac.specs.declared.fractions.Frac.{Frac}
-use Rattle.smp_frac.specs.Divisors.{greatest_common_divisor}
-use Rattle.smp_frac.specs.Exact.{lowest_text, fraction_text}
-use Rattle.smp_frac.specs.Laws.Coprime.{divisor_positive, part_positive}
+use Rattle.smp_frac.specs.{Fractions.{Fraction, Same, positive_product}, declared.fractions.Frac.{Frac}, Divisors.{greatest_common_divisor}}
+use Rattle.smp_frac.proofs.{Arithmetic.{cancel}, Unique.{same_fraction}}
+use Rattle.smp_frac.specs.{Exact.{lowest_text, fraction_text}, Laws.Coprime.{divisor_positive, part_positive}, Laws.Lowest.{lowest_parts}}
 use Rattle.smp_frac.specs.Laws.Gcds.{IsGcd-greatest_common_divisor}
-use Rattle.smp_frac.specs.Laws.Lowest.{lowest_parts}
-use Rattle.smp_frac.proofs.Unique.{same_fraction}
 
 -- n over d in lowest terms
 lowest : (n d : ℕ) → 1 ≤ d → Frac

@@ -1,21 +1,10 @@
 -- Each value has one fraction.
-use Rattle.std.proofs.Common.{◌≡◌, ◌↔◌, ℕ, ◌*◌, ◌≤◌, arith, sym, ap, ap₂, ◌∙◌, subst}
-use Rattle.std.proofs.Props.{props}
-use Rattle.std.proofs.lemmas.Bool.Decides.{nat_tests}
-use Rattle.std.proofs.lemmas.Int.{ints}
-use Rattle.std.specs.Ordering.{nat_cmp}
-use Rattle.std.specs.declared.cmp.Ordering.{Ordering}
-use Rattle.std.specs.declared.cmp.Ordering.TheVariants.{Equal}
-use Rattle.std.proofs.lemmas.Nat.Gcd.{IsGcd-swap, dvd_antisymm}
-use Rattle.std.proofs.Math.Nat.{dvd-mul_left, mul-div_cancel}
+use Rattle.std.proofs.{Common.{◌≡◌, ◌↔◌, ℕ, ◌*◌, ◌≤◌, arith, sym, ap, ap₂, ◌∙◌, subst}, Props.{props}, lemmas.Bool.Decides.{nat_tests}}
+use Rattle.std.proofs.{lemmas.Int.{ints}, lemmas.Nat.Gcd.{IsGcd-swap, dvd_antisymm}, Math.Nat.{dvd-mul_left, mul-div_cancel}}
+use Rattle.std.specs.{Ordering.{nat_cmp}, declared.cmp.Ordering.{Ordering}, declared.cmp.Ordering.TheVariants.{Equal}, Int.{IsGcd}}
 use Prim.Native.Nat.{◌∣◌, ◌/◌}
-use Rattle.smp_frac.specs.declared.fractions.Frac.{Frac}
-use Rattle.smp_frac.specs.Fractions.{Same}
-use Rattle.smp_frac.specs.Divisors.{greatest_common_divisor}
-use Rattle.smp_frac.specs.Exact.{fraction}
-use Rattle.smp_frac.specs.Laws.Coprime.{dvd_of_coprime}
-use Rattle.smp_frac.specs.Laws.Lowest.{coprime_from_lowest}
-use Rattle.std.specs.Int.{IsGcd}
+use Rattle.smp_frac.specs.{declared.fractions.Frac.{Frac}, Fractions.{Same}, Divisors.{greatest_common_divisor}, Exact.{fraction}}
+use Rattle.smp_frac.specs.{Laws.Coprime.{dvd_of_coprime}, Laws.Lowest.{coprime_from_lowest}}
 
 abbrev lowest : (n d : ℕ) → 1 ≤ d → greatest_common_divisor n d ≡ 1 → Frac
 lowest n d p r = record { num = n; den = d; positive = p; lowest = r }

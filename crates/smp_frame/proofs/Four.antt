@@ -1,14 +1,10 @@
 -- The frame of the worked draw, by computing: what its bytes say.
-use Rattle.std.specs.Prelude.{◌≡◌, [], ◌∷◌, codes, Ok}
-use Rattle.std.specs.Str.{chars, is_utf8}
+use Rattle.std.specs.{Prelude.{◌≡◌, [], ◌∷◌, codes, Ok}, Str.{chars, is_utf8}}
 use Rattle.std.proofs.Common.{refl}
-use Rattle.csv.specs.Machine.{next_record}
-use Rattle.csv.specs.Reading.{records_from}
+use Rattle.csv.specs.{Machine.{next_record}, Reading.{records_from}}
 use Rattle.smp_frac.specs.Divisors.{greatest_common_divisor}
-use Rattle.smp_frame.specs.Fields.{size_of}
+use Rattle.smp_frame.specs.{Fields.{size_of}, Layouts.{layout_of}, Sized.{sized_columns, sized_unit}}
 use Rattle.smp_frame.specs.Frames as frames
-use Rattle.smp_frame.specs.Layouts.{layout_of}
-use Rattle.smp_frame.specs.Sized.{sized_columns, sized_unit}
 
 pub frame_is : frames.frame_of sized_columns (codes "id,size\na,1\nb,2\nc,3\nd,4\n")
     ≡ Ok (sized_unit (codes "a") 1 ∷ sized_unit (codes "b") 2 ∷ sized_unit (codes "c") 3 ∷ sized_unit (codes "d") 4 ∷ [])

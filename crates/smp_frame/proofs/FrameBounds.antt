@@ -1,29 +1,15 @@
 -- Every frame that is read has few units, with small sizes and values, probabilities, and a value for each column of these that is asked for.
 use Rattle.std.proofs.Common.{◌≡◌, ℕ, zero, suc, ◌+◌, ◌<◌, ◌≤◌, ℤ, pos, neg_ℤ, nat_abs, Bool, true, false, cond, not, ◌&&◌, ◌==◌, nat_lt, nat_le, List, [], ◌∷◌, length, Option, Some, None, Result, Ok, Err, IfOk, All, refl, ap, subst, ◌∙◌, arith}
-use Rattle.std.specs.List.{list_all, list_any}
-use Rattle.std.specs.Str.{bytes_eq, is_utf8}
-use Rattle.std.specs.Str.Parse.{digits_value}
-use Rattle.std.proofs.lemmas.Bool.{ltb-true, leb-true, and_parts}
-use Rattle.std.proofs.lemmas.List.{get_or-map}
-use Rattle.std.proofs.lemmas.List.Elements.{All-cons, All-map}
-use Rattle.smp_frac.specs.Decimals.{is_decimal}
-use Rattle.smp_frac.specs.Fractions.{over, whole}
-use Rattle.smp_frac.specs.Limits.{most_rows, number_limit}
-use Rattle.smp_frac.specs.LowestTerms.{lowest_terms}
-use Rattle.smp_frac.specs.Faults.{◌>>=◌, guard}
-use Rattle.smp_frame.specs.Records.{field, records_of}
+use Rattle.std.specs.{List.{list_all, list_any}, Str.{bytes_eq, is_utf8}, Str.Parse.{digits_value}}
+use Rattle.std.proofs.{lemmas.Bool.{ltb-true, leb-true, and_parts}, lemmas.List.{get_or-map}, lemmas.List.Elements.{All-cons, All-map}}
+use Rattle.smp_frac.specs.{Decimals.{is_decimal}, Fractions.{over, whole}, Limits.{most_rows, number_limit}, LowestTerms.{lowest_terms}}
+use Rattle.smp_frac.specs.{Faults.{◌>>=◌, guard}, Memory.{Reads}, declared.fractions.Frac.{Frac}}
+use Rattle.smp_frame.specs.{Records.{field, records_of}, Layouts.{column_in, asked_in, columns_in, layout_of}, Faults.{is_memory}}
 use Rattle.smp_frame.specs.Fields.{size_of, size_in, sides_of, prob_of, prob_in, is_minus, without_minus, field_value, values_in}
-use Rattle.smp_frame.specs.Layouts.{column_in, asked_in, columns_in, layout_of}
-use Rattle.smp_frame.specs.Frames.{unit_of, units_from, units_of, frame_of}
-use Rattle.smp_frame.specs.Bounds.{AreNear, HaveBalance, HavePoints, IsFrame, IsProbability}
-use Rattle.smp_frac.specs.Memory.{Reads}
-use Rattle.smp_frame.specs.Faults.{is_memory}
-use Rattle.smp_frac.specs.declared.fractions.Frac.{Frac}
-use Rattle.smp_frame.specs.declared.columns.Columns.{Columns}
-use Rattle.smp_frame.specs.declared.layout.Column.{Column}
-use Rattle.smp_frame.specs.declared.layout.Layout.{Layout}
+use Rattle.smp_frame.specs.{Frames.{unit_of, units_from, units_of, frame_of}, declared.columns.Columns.{Columns}}
+use Rattle.smp_frame.specs.{Bounds.{AreNear, HaveBalance, HavePoints, IsFrame, IsProbability}, declared.layout.Column.{Column}}
+use Rattle.smp_frame.specs.{declared.layout.Layout.{Layout}, declared.fault.FrameFault.{FrameFault}}
 use Rattle.smp_frame.specs.declared.frame.Unit as unit
-use Rattle.smp_frame.specs.declared.fault.FrameFault.{FrameFault}
 use Rattle.smp_frame.specs.declared.fault.FrameFault.TheVariants.{RowLength, NotText, RepeatedId}
 use Rattle.smp_frac.proofs.LowestTerms.{lowest_terms-at_most_one, lowest_terms-den}
 

@@ -1,10 +1,8 @@
 -- A record takes at least a byte, and a reader stands between two records after it.
 use Rattle.std.proofs.Common.{◌≡◌, ℕ, ◌≤◌, ◌<◌, Bool, true, false, List, [], ◌∷◌, ◌++◌, Some, None, length, refl, subst, arith, if◌then◌else◌, ◌==◌}
 use Rattle.csv.specs.Machine.{Read, next_record, step, in_field, start_field, start_record, after_end, ends_at_end, is_end, fields_after, field_after, carriage_return}
-use Rattle.csv.specs.declared.parser.Config.{Config}
-use Rattle.csv.specs.declared.parser.Action.{Action}
+use Rattle.csv.specs.{declared.parser.Config.{Config}, declared.parser.Action.{Action}, declared.parser.State.{State}}
 use Rattle.csv.specs.declared.parser.Action.TheVariants as act
-use Rattle.csv.specs.declared.parser.State.{State}
 use Rattle.csv.specs.declared.parser.State.TheVariants as st
 use Rattle.csv.specs.declared.parser.Terminator.{Terminator}
 use Rattle.csv.specs.declared.parser.Terminator.TheVariants as term

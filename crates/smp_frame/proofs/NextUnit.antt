@@ -1,13 +1,9 @@
 -- A unit more in front of the others.
 use Rattle.std.proofs.Common.{◌≡◌, ℕ, ◌+◌, Bool, true, false, List, [], ◌∷◌, ◌++◌, Result, Ok, Err, nat_le, refl, sym, ap, ◌∙◌, append_assoc}
-use Rattle.smp_frac.specs.Limits.{most_rows}
-use Rattle.smp_frac.specs.Faults.{◌>>=◌, guard}
-use Rattle.smp_frame.specs.Frames.{unit_of, units_from}
-use Rattle.smp_frame.specs.Kept.Readers.{Takes}
+use Rattle.smp_frac.specs.{Limits.{most_rows}, Faults.{◌>>=◌, guard}}
+use Rattle.smp_frame.specs.{Frames.{unit_of, units_from}, Kept.Readers.{Takes}, declared.layout.Layout.{Layout}}
 use Rattle.smp_frame.specs.declared.frame.Unit as unit
-use Rattle.smp_frame.specs.declared.layout.Layout.{Layout}
-use Rattle.smp_frame.specs.declared.fault.FrameFault.{FrameFault}
-use Rattle.smp_frame.specs.declared.fault.FrameFault.TheVariants.{TooManyRows}
+use Rattle.smp_frame.specs.{declared.fault.FrameFault.{FrameFault}, declared.fault.FrameFault.TheVariants.{TooManyRows}}
 use Rattle.smp_frame.proofs.Front.{with_front}
 
 longer : (front : List unit.Unit) (first : unit.Unit) (units : Result (List unit.Unit) FrameFault) → with_front (front ++ first ∷ []) units ≡ with_front front (units >>= λ rest. Ok (first ∷ rest))

@@ -1,9 +1,7 @@
 -- The fields of a record, by their places, and as texts.
 use Rattle.std.proofs.Common.{◌≡◌, ℕ, zero, suc, ◌+◌, ◌-◌, ◌<◌, true, false, List, [], ◌∷◌, Option, Some, None, length, take, drop, drop-cons, get_or-drop, refl, sym, ap, ◌∙◌, inl, inr, arith}
-use Rattle.std.specs.List.{list_all}
-use Rattle.std.specs.Str.{IsAscii, IsUtf8, is_utf8}
-use Rattle.std.proofs.lemmas.Bool.{cases_Bool}
-use Rattle.std.proofs.lemmas.Str.{IsUtf8-nil, IsUtf8-from_ascii, IsUtf8-from_is_utf8, is_utf8-from_IsUtf8}
+use Rattle.std.specs.{List.{list_all}, Str.{IsAscii, IsUtf8, is_utf8}}
+use Rattle.std.proofs.{lemmas.Bool.{cases_Bool}, lemmas.Str.{IsUtf8-nil, IsUtf8-from_ascii, IsUtf8-from_is_utf8, is_utf8-from_IsUtf8}}
 use Rattle.smp_frac.proofs.Ascii.{both}
 use Rattle.csv.specs.Records.{cut_from, field_at}
 use Rattle.smp_frame.specs.Records.{field}

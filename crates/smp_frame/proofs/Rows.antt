@@ -1,15 +1,11 @@
 -- What a read of a record leaves of the records that a reader has left.
 use Rattle.std.proofs.Common.{◌≡◌, ℕ, zero, suc, ◌+◌, ◌<◌, Bool, true, false, List, [], ◌∷◌, Option, Some, None, length, refl, ◌∙◌, ap, arith, Bor, inl}
 use Rattle.std.specs.Prelude.{IsSome}
-use Rattle.csv.specs.Machine.{Read, next_record, ends_at_end}
+use Rattle.csv.specs.{Machine.{Read, next_record, ends_at_end}, declared.parser.State.{State}, declared.reader.Reader.{Reader}}
 use Rattle.csv.specs.Reading.{NextIs, ReadRecord, ReadsNext, default_config, is_flexible, pending_of, records_from, records_next, strip_bom, took_first}
-use Rattle.csv.specs.declared.parser.State.{State}
 use Rattle.csv.specs.declared.parser.State.TheVariants as st
-use Rattle.csv.specs.declared.reader.Reader.{Reader}
-use Rattle.smp_frame.specs.Kept.Readers.{IsReading, Takes, bytes_left, records_in, rows_left}
-use Rattle.smp_frame.specs.Records.{records_of, without_marks}
-use Rattle.smp_frame.proofs.Machine.{takes_some}
-use Rattle.smp_frame.proofs.Marks.{none_left}
+use Rattle.smp_frame.specs.{Kept.Readers.{IsReading, Takes, bytes_left, records_in, rows_left}, Records.{records_of, without_marks}}
+use Rattle.smp_frame.proofs.{Machine.{takes_some}, Marks.{none_left}}
 
 -- a text has no more records than bytes
 same_records : (n m : ℕ) (s : State) (xs : List ℕ) → ends_at_end s ≡ false → length xs < n → length xs < m → records_from default_config n s xs ≡ records_from default_config m s xs

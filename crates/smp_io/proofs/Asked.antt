@@ -1,8 +1,7 @@
 -- Names that are asked for.
 use Rattle.std.proofs.Common.{◌≡◌, ℕ, List, [], ◌∷◌, ◌++◌, Bool, true, false, Option, Some, None, option_map, sym, ap, subst, ◌∙◌, append_assoc, append-nil, inl, inr, arith}
 use Rattle.std.proofs.lemmas.List.Elements.{Contains-append_cases, Contains-append_left, Contains-append_right}
-use Rattle.smp_io.specs.Memory.{told_where}
-use Rattle.smp_io.specs.Store.{Asks, AsksOnly}
+use Rattle.smp_io.specs.{Memory.{told_where}, Store.{Asks, AsksOnly}}
 
 -- names that are told where they are all there, with one more
 pub keeps_name : (all : Bool) (before now : List (List ℕ)) (name : List ℕ) → now ≡ before ++ name ∷ [] → Asks (name ∷ []) (told_where all before) (told_where all now)

@@ -1,8 +1,7 @@
 -- Bytes of a reader that were asked for up to one past a limit.
 use Rattle.std.proofs.Common.{◌≡◌, ◌+◌, ◌≤◌, ◌<◌, ℕ, List, take, length, Option, Some, None, option_map, arith, ap, ◌∙◌, inl, inr}
 use Rattle.std.specs.Prelude.{IfSome, SomeIff, nat_lt}
-use Rattle.std.proofs.lemmas.Bool.{cases_Bool, ltb-true, ltb-false}
-use Rattle.std.proofs.lemmas.List.{length-take-le, take_all}
+use Rattle.std.proofs.{lemmas.Bool.{cases_Bool, ltb-true, ltb-false}, lemmas.List.{length-take-le, take_all}}
 
 module _ (limit asked : ℕ) (bytes : List ℕ) (one_more : asked ≡ limit + 1) where
   -- Where no more came than the limit, these are all that there were.

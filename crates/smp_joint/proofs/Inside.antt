@@ -2,18 +2,12 @@
 use Rattle.std.proofs.Common.{◌≡◌, ℕ, ◌<◌, Bool, true, false, ◌&&◌, length, Option, Some, refl}
 use Rattle.smp_frac.specs.Fractions.{Fraction, Same, whole}
 use Rattle.smp_frac.proofs.Arithmetic.{same_refl, same_trans}
-use Rattle.smp_prob.specs.declared.requests.Request.{Request}
-use Rattle.smp_prob.specs.declared.inclusions.Inclusion.{Inclusion}
+use Rattle.smp_prob.specs.{declared.requests.Request.{Request}, declared.inclusions.Inclusion.{Inclusion}}
 use Rattle.smp_prob.specs.declared.inclusions.Inclusion.TheVariants.{Certain, Free, Never}
 use Rattle.smp_prob.specs.Inclusions.{IsRising, inclusion, is_taken, free_fraction}
-use Rattle.smp_split.specs.Embeds.{embedded, BelongsInside}
-use Rattle.smp_split.specs.Lenses.{as_unit}
-use Rattle.smp_split.specs.Means.{mean_of, joint_probability}
-use Rattle.smp_split.specs.Trees.{Tree, Lawful}
-use Rattle.smp_split.proofs.Embeds.{embedded_closes, embedded_lawful, embedded_lens}
-use Rattle.smp_split.proofs.MeanOf.{mean_of_same}
-use Rattle.smp_split.specs.Laws.Rows.{free_within, row_view, rows_close, rows_lawful, rows_lens}
-use Rattle.smp_split.specs.Rows.{BelongsToRows, rows_tree}
+use Rattle.smp_split.specs.{Embeds.{embedded, BelongsInside}, Lenses.{as_unit}, Means.{mean_of, joint_probability}, Trees.{Tree, Lawful}}
+use Rattle.smp_split.proofs.{Embeds.{embedded_closes, embedded_lawful, embedded_lens}, MeanOf.{mean_of_same}}
+use Rattle.smp_split.specs.{Laws.Rows.{free_within, row_view, rows_close, rows_lawful, rows_lens}, Rows.{BelongsToRows, rows_tree}}
 use Rattle.smp_joint.specs.Joints.{joint_at}
 use Rattle.smp_joint.proofs.KeptMeans.{constant_mean, mean_closed, one_mean, one_where}
 

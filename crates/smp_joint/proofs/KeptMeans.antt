@@ -3,12 +3,9 @@ use Rattle.std.proofs.Common.{◌≡◌, ℕ, zero, suc, ◌<◌, ◌≤◌, Boo
 use Rattle.std.proofs.lemmas.Bool.{cases_Bool}
 use Rattle.smp_frac.specs.Fractions.{Fraction, Same, whole, times}
 use Rattle.smp_frac.proofs.Arithmetic.{same_refl, same_sym, same_trans, plus_same, times_same, times-plus, times-zero, times_comm, times_left_comm, one-times, zero-times, divided_same, divided-times}
-use Rattle.smp_split.specs.Lenses.{OuterUnit, Lens, Closes}
-use Rattle.smp_split.specs.Means.{mean_of, joint_probability}
-use Rattle.smp_split.specs.Trees.{Part, Tree, EachPart, IsPart, Lawful, weight_sum, weighted}
+use Rattle.smp_split.specs.{Lenses.{OuterUnit, Lens, Closes}, Means.{mean_of, joint_probability}, Laws.Means.{no_parts, weighted_same}}
+use Rattle.smp_split.specs.{Trees.{Part, Tree, EachPart, IsPart, Lawful, weight_sum, weighted}, Laws.Parts.{weighted-same}}
 use Rattle.smp_split.proofs.MeanOf.{mean_of_end, mean_of_same, mean_of_step, mean_through}
-use Rattle.smp_split.specs.Laws.Means.{no_parts, weighted_same}
-use Rattle.smp_split.specs.Laws.Parts.{weighted-same}
 
 -- 1 where it holds, and 0 elsewhere
 abbrev pub one_where : Bool → Fraction

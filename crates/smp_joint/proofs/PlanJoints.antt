@@ -1,55 +1,33 @@
 -- The joint probabilities of the rows of a plan that draws systematically, in the order of the frame and in one stage.
 use Rattle.std.proofs.Common.{◌≡◌, ◌≢◌, ℕ, zero, suc, ◌<◌, ◌≤◌, Bool, false, ℤ, cond, List, [], ◌∷◌, ◌++◌, length, map, take, Option, Some, None, arith, refl, sym, ap, subst, ◌∙◌, inl, inr}
-use Rattle.std.specs.Prelude.{option_map}
-use Rattle.std.specs.List.{slice_get}
-use Rattle.std.proofs.Math.Seq.{take-suc, take-length}
-use Rattle.std.proofs.lemmas.Bool.{cases_eq, eq-eqb, ne_eqb}
+use Rattle.std.specs.{Prelude.{option_map}, List.{slice_get}}
+use Rattle.std.proofs.{Math.Seq.{take-suc, take-length}, lemmas.Bool.{cases_eq, eq-eqb, ne_eqb}}
 use Rattle.std.proofs.lemmas.List.{length-map, length-take-le, map-append}
 use Rattle.std.proofs.lemmas.Option.{get_or_from_slice_get, same_Some, slice_get-map, slice_get_within}
 use Rattle.smp_frac.specs.Fractions.{Fraction, Same, times}
 use Rattle.smp_frac.proofs.Arithmetic.{same_trans, times_same}
-use Rattle.smp_prob.specs.declared.orders.Order.{Order}
-use Rattle.smp_prob.specs.declared.orders.Order.TheVariants.{Frame}
-use Rattle.smp_prob.specs.declared.requests.Request.{Request}
-use Rattle.smp_split.specs.Means.{joint_probability}
-use Rattle.smp_design.specs.declared.method.Method.{Method}
-use Rattle.smp_design.specs.declared.method.Method.TheVariants.{Systematic}
+use Rattle.smp_prob.specs.{declared.orders.Order.{Order}, declared.orders.Order.TheVariants.{Frame}, declared.requests.Request.{Request}}
+use Rattle.smp_split.specs.{Means.{joint_probability}, declared.places.Place.{Place}, declared.places.Stage.{Stage}}
+use Rattle.smp_design.specs.{declared.method.Method.{Method}, declared.method.Method.TheVariants.{Systematic}, Words.{draws_together}}
 use Rattle.smp_design.specs.declared.procedure.Procedure.{Procedure}
-use Rattle.smp_design.specs.Words.{draws_together}
 use Rattle.smp_design.proofs.Rows.{systematic_apart}
-use Rattle.smp_methods.specs.declared.any.AnyDesign.{AnyDesign}
-use Rattle.smp_methods.specs.declared.any.AnyState.{AnyState}
+use Rattle.smp_methods.specs.{declared.any.AnyDesign.{AnyDesign}, declared.any.AnyState.{AnyState}, Methods.{method_of}}
 use Rattle.smp_values.proofs.Requests.{adds_to_draws}
 use Rattle.smp_values.specs.InOrder.{started}
 use Rattle.smp_methods.specs.declared.any.AnyDesign.TheVariants as designs
 use Rattle.smp_methods.specs.Designs.{design_by, design_of, first_state}
-use Rattle.smp_methods.specs.Methods.{method_of}
-use Rattle.smp_split.specs.declared.places.Place.{Place}
 use Rattle.smp_split.specs.declared.places.Seat.TheVariants as seat
-use Rattle.smp_split.specs.declared.places.Stage.{Stage}
-use Rattle.smp_split.specs.Laws.Reads.{some_within}
-use Rattle.smp_split.specs.Stages.{IsUnderWay, Progress, progress}
-use Rattle.smp_strata.specs.Plans.{Plan}
-use Rattle.smp_strata.specs.Seats.{first_fraction, unit_fraction}
+use Rattle.smp_split.specs.{Laws.Reads.{some_within}, Stages.{IsUnderWay, Progress, progress, seat_value, unit_value}}
+use Rattle.smp_strata.specs.{Plans.{Plan}, Seats.{first_fraction, unit_fraction}, declared.strata.FirstUnit.{FirstUnit}}
 use Rattle.smp_prob.specs.Inclusions.{asked_fraction}
-use Rattle.smp_strata.specs.declared.strata.FirstUnit.{FirstUnit}
-use Rattle.smp_strata.specs.declared.strata.Seat.{Seat}
-use Rattle.smp_strata.specs.declared.strata.Stratum.{Stratum}
-use Rattle.smp_twostage.specs.Kept.Stages.{EachStarts, IsPlanned, StageStarts}
-use Rattle.smp_twostage.specs.Plans.{CanBeDrawn}
+use Rattle.smp_strata.specs.{declared.strata.Seat.{Seat}, declared.strata.Stratum.{Stratum}}
+use Rattle.smp_twostage.specs.{Kept.Stages.{EachStarts, IsPlanned, StageStarts}, Plans.{CanBeDrawn}, Kept.Sides.{states_of}}
 use Rattle.smp_twostage.specs.Selections.{Selecting, belongs_to, first_number, first_stage, place_of, seat_by, seats_of, stage_within, stages_below, stages_in, stages_of, stages_within, tree_of}
-use Rattle.smp_twostage.specs.Kept.Sides.{states_of}
-use Rattle.smp_twostage.specs.Laws.Numbering.{first_there}
-use Rattle.smp_twostage.specs.Laws.Places.{StandsIn}
-use Rattle.smp_twostage.specs.Laws.Staged.{place_stands, seat_at, whole_staged}
+use Rattle.smp_twostage.specs.{Laws.Numbering.{first_there}, Laws.Places.{StandsIn}, Laws.Staged.{place_stands, seat_at, whole_staged}}
 use Rattle.smp_twostage.specs.Laws.Wholes.{stage_lawful}
-use Rattle.smp_twostage.proofs.Columns.{is_planned}
-use Rattle.smp_twostage.proofs.Starts.{each_belongs}
-use Rattle.smp_twostage.proofs.StartsBy.{stages_so, states_so, tree_so}
+use Rattle.smp_twostage.proofs.{Columns.{is_planned}, Starts.{each_belongs}, StartsBy.{stages_so, states_so, tree_so}}
 use Rattle.smp_twostage.proofs.Values.{unit_value_is}
-use Rattle.smp_split.specs.Stages.{seat_value, unit_value}
-use Rattle.smp_joint.specs.JointRows.{joint_in, HasJoints, IsSystematicPlan, joint_fraction}
-use Rattle.smp_joint.specs.Joints.{joint_of}
+use Rattle.smp_joint.specs.{JointRows.{joint_in, HasJoints, IsSystematicPlan, joint_fraction}, Joints.{joint_of}}
 use Rattle.smp_joint.proofs.StageJoints.{stage_together, stages_apart}
 use Rattle.smp_joint.proofs.StratumJoints.{all_member, around, requested, serves, unit_joint, unit_sum}
 

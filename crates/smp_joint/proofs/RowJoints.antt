@@ -1,30 +1,16 @@
 -- The joint probability of two rows, by what is written down for each of them.
 use Rattle.std.proofs.Common.{◌≡◌, ◌≢◌, ℕ, ◌+◌, ◌*◌, ◌/◌, ◌<◌, false, nat_eq, List, [], ◌∷◌, ◌++◌, length, get_or, Some, arith, sym, ap, subst, ◌∙◌, inl, inr, length-append}
-use Rattle.std.specs.Prelude.{option_map}
-use Rattle.std.specs.List.{slice_get}
-use Rattle.std.proofs.Math.Seq.{get_or-append_seam}
-use Rattle.std.proofs.lemmas.Bool.{cases_eq, eq-eqb, ne_eqb}
-use Rattle.std.proofs.lemmas.List.{get_or_append_left, length-map}
+use Rattle.std.specs.{Prelude.{option_map}, List.{slice_get}}
+use Rattle.std.proofs.{Math.Seq.{get_or-append_seam}, lemmas.Bool.{cases_eq, eq-eqb, ne_eqb}, lemmas.List.{get_or_append_left, length-map}}
 use Rattle.std.proofs.lemmas.Option.{get_or_from_slice_get, same_Some, slice_get-map, slice_get_within}
-use Rattle.smp_frac.specs.Fractions.{Fraction, Same, over, times}
+use Rattle.smp_frac.specs.{Fractions.{Fraction, Same, over, times}, declared.fractions.Frac.{Frac}, Exact.{fraction}}
 use Rattle.smp_frac.proofs.Arithmetic.{same_trans, times_same}
-use Rattle.smp_frac.specs.declared.fractions.Frac.{Frac}
-use Rattle.smp_frac.specs.Exact.{fraction}
-use Rattle.smp_prob.specs.declared.inclusions.Inclusion.TheVariants.{Free}
-use Rattle.smp_prob.specs.Inclusions.{asked_fraction, fraction_at, inclusion}
-use Rattle.smp_prob.specs.Requests.{IsRequest}
-use Rattle.smp_prob.specs.Shares.{Shares, common_divisor, shares_of}
+use Rattle.smp_prob.specs.{declared.inclusions.Inclusion.TheVariants.{Free}, Inclusions.{asked_fraction, fraction_at, inclusion}}
+use Rattle.smp_prob.specs.{Requests.{IsRequest}, Shares.{Shares, common_divisor, shares_of}}
 use Rattle.smp_split.specs.Laws.Rows.{free_within}
-use Rattle.smp_strata.specs.Plans.{Plan}
-use Rattle.smp_strata.specs.Seats.{first_fraction}
-use Rattle.smp_strata.specs.declared.strata.Seat.{Seat}
-use Rattle.smp_strata.specs.declared.strata.Stratum.{Stratum}
+use Rattle.smp_strata.specs.{Plans.{Plan}, Seats.{first_fraction}, declared.strata.Seat.{Seat}, declared.strata.Stratum.{Stratum}}
 use Rattle.smp_twostage.specs.Selections.{place_of}
-use Rattle.smp_joint.specs.Both.{both_of}
-use Rattle.smp_joint.specs.JointRows.{joint_at_seats}
-use Rattle.smp_joint.specs.Joints.{joint_at}
-use Rattle.smp_joint.specs.Kept.{arcs_of}
-use Rattle.smp_joint.specs.Rows.{AreRows, StandsAt}
+use Rattle.smp_joint.specs.{Both.{both_of}, JointRows.{joint_at_seats}, Joints.{joint_at}, Kept.{arcs_of}, Rows.{AreRows, StandsAt}}
 use Rattle.smp_joint.specs.declared.row.Row.{Row}
 
 -- what is written down for a row

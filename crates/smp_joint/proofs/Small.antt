@@ -1,19 +1,12 @@
 -- The probabilities of a request in lowest terms are small.
-use Rattle.std.proofs.Common.{◌≡◌, ℕ, ◌*◌, ◌^◌, ◌<◌, ◌≤◌, max, length, arith, refl, sym, subst}
+use Rattle.std.proofs.{Common.{◌≡◌, ℕ, ◌*◌, ◌^◌, ◌<◌, ◌≤◌, max, length, arith, refl, sym, subst}, lemmas.Int.{ints}}
 use Rattle.std.specs.Prelude.{slice_index}
-use Rattle.std.proofs.Math.Nat.{dvd-mul_left, le_of_mul-le-mul_right, mul-le-mul_left}
-use Rattle.std.proofs.lemmas.Int.{ints}
-use Rattle.std.proofs.lemmas.Nat.Gcd.{IsGcd-swap, le_of_dvd}
+use Rattle.std.proofs.{Math.Nat.{dvd-mul_left, le_of_mul-le-mul_right, mul-le-mul_left}, lemmas.Nat.Gcd.{IsGcd-swap, le_of_dvd}}
 use Prim.Native.Nat.{◌∣◌}
-use Rattle.smp_frac.specs.Fractions.{Same, over, positive_product, times}
-use Rattle.smp_frac.specs.declared.fractions.Frac.{Frac}
-use Rattle.smp_frac.specs.Exact.{fraction}
-use Rattle.smp_frac.specs.Laws.Coprime.{dvd_of_coprime}
-use Rattle.smp_frac.specs.Laws.Lowest.{coprime_from_lowest}
-use Rattle.smp_prob.specs.declared.requests.Request.{Request}
-use Rattle.smp_prob.specs.declared.inclusions.Inclusion.{Inclusion}
+use Rattle.smp_frac.specs.{Fractions.{Same, over, positive_product, times}, declared.fractions.Frac.{Frac}, Exact.{fraction}}
+use Rattle.smp_frac.specs.{Laws.Coprime.{dvd_of_coprime}, Laws.Lowest.{coprime_from_lowest}}
+use Rattle.smp_prob.specs.{declared.requests.Request.{Request}, declared.inclusions.Inclusion.{Inclusion}, Requests.{IsRequest}}
 use Rattle.smp_prob.specs.declared.inclusions.Inclusion.TheVariants.{Certain, Free, Never}
-use Rattle.smp_prob.specs.Requests.{IsRequest}
 use Rattle.smp_prob.specs.Inclusions.{asked_fraction, fraction_at, inclusion}
 use Rattle.smp_split.specs.Laws.Rows.{free_within}
 

@@ -4,40 +4,24 @@ use Rattle.std.specs.Prelude.{slice_index}
 use Rattle.std.proofs.lemmas.Bool.{cases_Bool, eqb-true}
 use Rattle.smp_frac.specs.Fractions.{Fraction, Same, whole, times, sum_below}
 use Rattle.smp_frac.proofs.Arithmetic.{same_refl, same_sym, same_trans, times_same, one-times, sum_same}
-use Rattle.smp_prob.specs.declared.orders.Order.TheVariants.{Frame}
-use Rattle.smp_prob.specs.declared.requests.Request.{Request}
-use Rattle.smp_prob.specs.declared.inclusions.Inclusion.TheVariants.{Free}
-use Rattle.smp_prob.specs.Requests.{IsRequest}
-use Rattle.smp_prob.specs.Shares.{Shares, numerators, shares_of}
+use Rattle.smp_prob.specs.{declared.orders.Order.TheVariants.{Frame}, declared.requests.Request.{Request}, Requests.{IsRequest}}
+use Rattle.smp_prob.specs.{declared.inclusions.Inclusion.TheVariants.{Free}, Shares.{Shares, numerators, shares_of}}
 use Rattle.smp_prob.specs.Inclusions.{AreApart, IsRising, asked_fraction}
 use Rattle.smp_prob.proofs.Fractions.{length-numerators}
-use Rattle.smp_split.specs.Counts.{LeavesSelectAround}
-use Rattle.smp_split.specs.Means.{joint_probability, value_sum}
-use Rattle.smp_split.specs.Orders.{Ordered}
-use Rattle.smp_split.specs.Trees.{Tree, Lawful}
-use Rattle.smp_split.proofs.Counts.{around_select}
-use Rattle.smp_split.proofs.Embeds.{embedded_around}
-use Rattle.smp_values.specs.Starts.{IsRequested}
-use Rattle.smp_values.specs.Values.{fractional_count, is_settled, value_at}
+use Rattle.smp_split.specs.{Counts.{LeavesSelectAround}, Means.{joint_probability, value_sum}, Orders.{Ordered}, Trees.{Tree, Lawful}}
+use Rattle.smp_split.proofs.{Counts.{around_select}, Embeds.{embedded_around}, RowsAround.{rows_around}, RowsAsked.{value_is_asked}}
+use Rattle.smp_values.specs.{Starts.{IsRequested}, Values.{fractional_count, is_settled, value_at}, InOrder.{places_tree, started}}
 use Rattle.smp_values.proofs.Requests.{few_shares, requested_in_order, shares_fractional, shares_in_range, starts_in_order, wider}
 use Rattle.smp_values.proofs.Units.{none_fractional}
-use Rattle.smp_values.specs.InOrder.{places_tree, started}
 use Rattle.smp_pivotal.specs.Systematic.{IsSystematic, systematic_rule, systematic_tree}
 use Rattle.smp_pivotal.specs.Laws.SystematicSplits.{leaf_around, systematic_lawful}
-use Rattle.smp_split.specs.Laws.Rows.{rows_lawful}
-use Rattle.smp_split.specs.Rows.{BelongsToRows, SelectsAsRequested, rows_tree}
-use Rattle.smp_split.proofs.RowsAround.{rows_around}
-use Rattle.smp_split.proofs.RowsAsked.{value_is_asked}
-use Rattle.smp_methods.specs.declared.any.AnyDesign.{AnyDesign}
+use Rattle.smp_split.specs.{Laws.Rows.{rows_lawful}, Rows.{BelongsToRows, SelectsAsRequested, rows_tree}}
+use Rattle.smp_methods.specs.{declared.any.AnyDesign.{AnyDesign}, declared.any.AnyState.{AnyState}, Designs.{first_state}}
 use Rattle.smp_methods.specs.declared.any.AnyDesign.TheVariants as designs
-use Rattle.smp_methods.specs.declared.any.AnyState.{AnyState}
 use Rattle.smp_methods.specs.declared.any.AnyState.TheVariants as states
-use Rattle.smp_methods.specs.Designs.{first_state}
 use Rattle.smp_methods.specs.Methods.{method_of}
 use Rattle.smp_joint.specs.Joints.{joint_at, joint_of}
-use Rattle.smp_joint.proofs.Draws.{joint_draws}
-use Rattle.smp_joint.proofs.Inside.{joint_embedded, joint_rows}
-use Rattle.smp_joint.proofs.Others.{joint_sum, joint_with}
+use Rattle.smp_joint.proofs.{Draws.{joint_draws}, Inside.{joint_embedded, joint_rows}, Others.{joint_sum, joint_with}}
 
 -- the states of a systematic selection among those of all methods
 abbrev out_of : AnyState → Option (Ordered Shares)

@@ -1,25 +1,16 @@
 -- No entry of a circuit passes half of the permutations times the product of the bounds of all rows: minors alternate in their columns
 -- too, so the circuit is in proportion to minors.
 use Rattle.std.proofs.Common.{◌≡◌, ◌≢◌, ℕ, zero, suc, ◌*◌, ◌<◌, ◌≤◌, List, [], ◌∷◌, ◌++◌, ℤ, pos, neg_ℤ, ◌+ℤ◌, ◌*ℤ◌, length, length-append, map, get_or, take, arith, sym, refl, ap, ap₂, ◌∙◌, subst, inl, inr, le_of_suc-le-suc, suc-le-suc, zero-lt-suc, mul-le-mul_right, le_of_mul-le-mul_right}
-use Rattle.std.proofs.lemmas.Bool.{cases_eq, cases_lt}
-use Rattle.std.proofs.lemmas.Int.{ints, unsigned_abs-mul}
-use Rattle.std.proofs.lemmas.List.{get_or_past, get_or_append_left, length-map}
-use Rattle.std.proofs.lemmas.Nat.Gcd.{le_of_dvd}
-use Rattle.std.proofs.Math.Nat.{dvd-zero, dvd-mul_left, dvd-mul_right}
-use Rattle.std.specs.Int.RustNames.{unsigned_abs}
-use Rattle.std.specs.List.{Contains}
+use Rattle.std.proofs.{lemmas.Bool.{cases_eq, cases_lt}, lemmas.Int.{ints, unsigned_abs-mul}, lemmas.Nat.Gcd.{le_of_dvd}}
+use Rattle.std.proofs.{lemmas.List.{get_or_past, get_or_append_left, length-map}, Math.Nat.{dvd-zero, dvd-mul_left, dvd-mul_right}}
+use Rattle.std.specs.{Int.RustNames.{unsigned_abs}, List.{Contains}}
 use Prim.Native.Nat.{◌∣◌}
 use lib.IntN.{*ℤ_comm, *ℤ-one, *ℤ-zero, zero-*ℤ, +ℤ_idl, +ℤ_idr, +ℤ_assoc}
-use Rattle.smp_kernel.proofs.Ring.{*ℤ_assoc, *ℤ-+ℤ, +ℤ-*ℤ, neg-*ℤ, zero_right, positive_some}
-use Rattle.smp_kernel.proofs.Dot.{entry-plus, entry-times}
-use Rattle.smp_kernel.proofs.Columns.{dot_single}
-use Rattle.smp_kernel.proofs.Lists.{at_last, entry-map, get_or_default, map_last}
-use Rattle.smp_kernel.proofs.Limits.{Within-from_entries}
-use Rattle.smp_kernel.proofs.Primitive.{abs_positive, dvd_of_primitive}
-use Rattle.smp_kernel.proofs.Existence.{AllShort, HasElimination, cut_short, elimination_of}
+use Rattle.smp_kernel.proofs.{Ring.{*ℤ_assoc, *ℤ-+ℤ, +ℤ-*ℤ, neg-*ℤ, zero_right, positive_some}, Dot.{entry-plus, entry-times}}
+use Rattle.smp_kernel.proofs.{Columns.{dot_single}, Lists.{at_last, entry-map, get_or_default, map_last}, Limits.{Within-from_entries}}
+use Rattle.smp_kernel.proofs.{Primitive.{abs_positive, dvd_of_primitive}, Existence.{AllShort, HasElimination, cut_short, elimination_of}}
 use Rattle.smp_kernel.proofs.Minors.{abs_neg, doubled, exchanged, minus_zero, opposite_zero, right_neg, same_abs, swap_factors, times_zero, wedge_same, wedge_times, wedge_zero}
-use Rattle.smp_kernel.proofs.TableMinors.{used_minor, wedge_off}
-use Rattle.smp_kernel.proofs.UsedLists.{used_unique}
+use Rattle.smp_kernel.proofs.{TableMinors.{used_minor, wedge_off}, UsedLists.{used_unique}}
 use Rattle.smp_kernel.proofs.TableSizes.{AreApart, apart_from, minor_within, from_others}
 use Rattle.smp_kernel.specs.Vectors.{entry, plus, times, dot, combination, Within}
 use Rattle.smp_kernel.specs.RowReduction.{cut, AreIndependent, InForce, IsRelationOn, IsUsed, IsCircuit}

@@ -1,13 +1,9 @@
 -- Tables that are kept from one search to the next.
 use Rattle.std.proofs.Common.{◌≡◌, ℕ, zero, suc, ◌+◌, ◌-◌, ◌<◌, ◌≤◌, List, [], ◌∷◌, ◌++◌, ℤ, arith, sym, refl, ap, ap₂, ◌∙◌, subst, inl, inr, length, length-take, length-append, get_or, get_or-take, take}
-use Rattle.std.proofs.lemmas.Bool.{cases_lt}
+use Rattle.std.proofs.{lemmas.Bool.{cases_lt}, Math.Seq.{get_or-append_seam}}
 use Rattle.std.proofs.lemmas.List.{get_or-map, get_or_append_left, length-map, take_all, take_more, take-append-le, take-take}
-use Rattle.std.proofs.Math.Seq.{get_or-append_seam}
 use Rattle.smp_kernel.proofs.SearchLaw.{enter_more}
-use Rattle.smp_kernel.specs.RowReduction.{cut}
-use Rattle.smp_kernel.specs.Answers.{Enters}
-use Rattle.smp_kernel.specs.Searches.{AllEnter}
-use Rattle.smp_kernel.specs.Kept.Searched.{AreTables, IsSearching, last_of}
+use Rattle.smp_kernel.specs.{RowReduction.{cut}, Answers.{Enters}, Searches.{AllEnter}, Kept.Searched.{AreTables, IsSearching, last_of}}
 
 -- columns that enter do so at the front of any list
 module _ (q : ℕ) (a b : List (List ℤ)) (n : ℕ) (l : n ≤ length b) (same : take n a ≡ take n b) where

@@ -3,8 +3,7 @@ use Rattle.std.proofs.Common.{◌≡◌, ℕ, suc, ◌+◌, ◌*◌, ◌≤◌, 
 use Rattle.std.proofs.lemmas.Int.{ints, unsigned_abs-mul}
 use Rattle.std.specs.Int.RustNames.{unsigned_abs}
 use lib.IntN.{*ℤ-one, *ℤ-zero, pos-*ℤ-pos}
-use Rattle.smp_kernel.specs.Vectors.{entry}
-use Rattle.smp_kernel.specs.Minors.{wedge, minor, IsFrom, AreFrom, sign_count, row_product}
+use Rattle.smp_kernel.specs.{Vectors.{entry}, Minors.{wedge, minor, IsFrom, AreFrom, sign_count, row_product}}
 
 abs_minus : (p w : ℤ) → unsigned_abs (p +ℤ neg_ℤ w) ≤ unsigned_abs p + unsigned_abs w
 abs_minus p w = omega (arith, ints)

@@ -1,19 +1,13 @@
 -- The law on minors. A minor is a function of a list of rows; a column before such a function is linear, keeps that it alternates,
 -- and is met by a vector as a derivation.
 use Rattle.std.proofs.Common.{◌≡◌, ◌≢◌, ℕ, zero, suc, ◌*◌, ◌<◌, ◌≤◌, List, [], ◌∷◌, ◌++◌, ℤ, pos, neg_ℤ, ◌+ℤ◌, ◌*ℤ◌, length, arith, sym, refl, ap, ap₂, ◌∙◌, subst, inl, inr, le_of_suc-le-suc, suc-le-suc, zero-lt-suc, mul-le-mul_right, le_of_mul-le-mul_right, zero-mul}
-use Rattle.std.proofs.lemmas.Int.{ints, unsigned_abs-mul}
-use Rattle.std.proofs.lemmas.Nat.Gcd.{le_of_dvd}
-use Rattle.std.proofs.Math.Nat.{dvd-zero, dvd-mul_right}
-use Rattle.std.specs.Int.RustNames.{unsigned_abs}
-use Rattle.std.specs.List.{Contains}
+use Rattle.std.proofs.{lemmas.Int.{ints, unsigned_abs-mul}, lemmas.Nat.Gcd.{le_of_dvd}, Math.Nat.{dvd-zero, dvd-mul_right}}
+use Rattle.std.specs.{Int.RustNames.{unsigned_abs}, List.{Contains}}
 use Prim.Native.Nat.{◌∣◌}
 use lib.IntN.{*ℤ_comm, *ℤ-zero, zero-*ℤ, +ℤ_idl, +ℤ_idr}
-use Rattle.smp_kernel.proofs.Ring.{*ℤ_assoc, +ℤ-*ℤ, *ℤ-+ℤ, neg-*ℤ, abs_zero, zero_of_product, zero_left, zero_right}
-use Rattle.smp_kernel.proofs.Dot.{dot_zero}
-use Rattle.smp_kernel.proofs.Lists.{contains_cases}
-use Rattle.smp_kernel.proofs.Primitive.{abs_positive, dvd_of_primitive, not_primitive}
-use Rattle.smp_kernel.specs.Vectors.{entry, dot, IsPrimitive}
-use Rattle.smp_kernel.specs.Minors.{wedge, no_rows, minor, IsOrthogonal}
+use Rattle.smp_kernel.proofs.{Ring.{*ℤ_assoc, +ℤ-*ℤ, *ℤ-+ℤ, neg-*ℤ, abs_zero, zero_of_product, zero_left, zero_right}, Dot.{dot_zero}}
+use Rattle.smp_kernel.proofs.{Lists.{contains_cases}, Primitive.{abs_positive, dvd_of_primitive, not_primitive}}
+use Rattle.smp_kernel.specs.{Vectors.{entry, dot, IsPrimitive}, Minors.{wedge, no_rows, minor, IsOrthogonal}}
 
 -- ---- sums of whole numbers
 both_zero : (a b : ℤ) → a ≡ pos 0 → b ≡ pos 0 → a +ℤ b ≡ pos 0

@@ -1,15 +1,12 @@
 -- What is kept without a column of the one relation is independent.
 use Rattle.std.proofs.Common.{◌≡◌, ◌≢◌, ℕ, zero, suc, ◌+◌, Bool, true, false, List, [], ◌∷◌, ◌++◌, ℤ, pos, neg_ℤ, ◌+ℤ◌, ◌*ℤ◌, length, length-append, map, get_or, take, arith, sym, refl, ap, ap₂, ◌∙◌, subst, inl, inr}
-use Rattle.std.proofs.lemmas.Bool.{cases_eq, true≢false}
-use Rattle.std.proofs.lemmas.Int.{ints}
+use Rattle.std.proofs.{lemmas.Bool.{cases_eq, true≢false}, lemmas.Int.{ints}}
 use lib.IntN.{*ℤ_comm, *ℤ-zero, zero-*ℤ, +ℤ_idl}
-use Rattle.smp_kernel.proofs.Ring.{cancels, neg_zero, zero_of_product, zero_left, zero_right}
+use Rattle.smp_kernel.proofs.{Ring.{cancels, neg_zero, zero_of_product, zero_left, zero_right}, Lists.{split_last}}
 use Rattle.smp_kernel.proofs.Dot.{unit_dot, entry-plus, entry-times, dot-plus, dot-times, dot-combination}
-use Rattle.smp_kernel.proofs.Lists.{split_last}
 use Rattle.smp_kernel.proofs.CircuitLaw.{in_proportion, length-plus, length-times}
-use Rattle.smp_kernel.specs.Vectors.{entry, plus, times, dot, combination, unit, IsZero}
+use Rattle.smp_kernel.specs.{Vectors.{entry, plus, times, dot, combination, unit, IsZero}, Minors.{keep}}
 use Rattle.smp_kernel.specs.RowReduction.{AreIndependent, InForce, IsRelationOn}
-use Rattle.smp_kernel.specs.Minors.{keep}
 
 -- ---- what is kept
 -- factors for all columns, 0 at those that aren't kept

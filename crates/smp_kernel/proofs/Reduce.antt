@@ -1,20 +1,14 @@
 -- A row divided by its content.
 use Rattle.std.proofs.Common.{◌≡◌, ℕ, zero, ◌+◌, ◌*◌, ◌<◌, ◌≤◌, ◌^◌, List, ℤ, pos, ◌*ℤ◌, ◌<ℤ◌, length, arith, sym, subst, ap, ◌∙◌, refl, inl, inr, suc, eq-zero-or-pos}
-use Rattle.std.proofs.lemmas.Int.{ints, unsigned_abs-mul}
-use Rattle.std.proofs.lemmas.Bool.{cases_lt}
-use Rattle.std.proofs.lemmas.List.{get_or_past, get_or-map, length-map}
+use Rattle.std.proofs.{lemmas.Int.{ints, unsigned_abs-mul}, lemmas.Bool.{cases_lt}, lemmas.List.{get_or_past, get_or-map, length-map}}
 use Rattle.std.specs.Int.RustNames.{unsigned_abs, int_div}
-use Rattle.smp_kernel.proofs.Quotients.{exact}
-use Rattle.smp_kernel.proofs.Limits.{Within-same}
-use Rattle.smp_kernel.proofs.Ring.{abs_zero, positive_some}
+use Rattle.smp_kernel.proofs.{Quotients.{exact}, Limits.{Within-same}, Ring.{abs_zero, positive_some}}
 use Rattle.smp_kernel.proofs.Primitive.{cancel_left, cancel_factor, factors_same, same_sizes, one_from_le}
-use Rattle.std.proofs.Math.Nat.{le_of_dvd, mul-dvd-mul_left, eq-zero_of_zero-dvd}
+use Rattle.std.proofs.Math.Nat.{le_of_dvd, mul-dvd-mul_left, eq-zero_of_zero-dvd, dvd-zero, dvd-mul_left, pos_of_dvd_of_pos}
 use Prim.Native.Nat.{◌∣◌}
 use Rattle.smp_kernel.specs.Vectors.{entry, IsZero, IsPrimitive, Within}
-use Rattle.std.proofs.Math.Nat.{dvd-zero, dvd-mul_left, pos_of_dvd_of_pos}
 use Rattle.std.proofs.lemmas.Nat.Gcd.{dvd_trans}
-use Rattle.smp_frac.specs.Divisors.{IsContent, IsContentOfFirst, greatest_common_divisor}
-use Rattle.smp_frac.specs.Laws.Gcds.{IsGcd-greatest_common_divisor}
+use Rattle.smp_frac.specs.{Divisors.{IsContent, IsContentOfFirst, greatest_common_divisor}, Laws.Gcds.{IsGcd-greatest_common_divisor}}
 use Rattle.smp_frac.proofs.Contents.{content_more}
 use Rattle.smp_kernel.specs.Reduced.{IsReduced, IsTooLong, content_of_first, primitive_part, quotients}
 use lib.IntN.{*ℤ-zero}

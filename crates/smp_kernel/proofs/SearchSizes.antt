@@ -2,17 +2,10 @@
 use Rattle.std.proofs.Common.{◌≡◌, ℕ, zero, suc, ◌+◌, ◌<◌, ◌≤◌, List, [], ◌∷◌, ◌++◌, ℤ, length, take, get_or, arith, sym, subst, inl, inr, le_of_suc-le-suc}
 use Rattle.std.proofs.lemmas.List.{get_or-map, length-map, take-map, take_more}
 use Rattle.smp_frac.specs.Limits.{most_entry}
-use Rattle.smp_kernel.proofs.Limits.{entry_within, Within-from_entries}
-use Rattle.smp_kernel.proofs.Independence.{push_independent}
-use Rattle.smp_kernel.proofs.Existence.{has_circuit}
-use Rattle.smp_kernel.proofs.SearchLaw.{together}
-use Rattle.smp_kernel.proofs.TableSizes.{table_fits}
-use Rattle.smp_kernel.proofs.CircuitSizes.{circuits_within}
-use Rattle.smp_kernel.specs.Vectors.{Within}
-use Rattle.smp_kernel.specs.RowReduction.{cut, AreIndependent, IsCircuit, IsDependent, TableFits}
-use Rattle.smp_kernel.specs.Answers.{Closes}
-use Rattle.smp_kernel.specs.Searches.{IsFound, IsTooWide}
-use Rattle.smp_kernel.specs.Minors.{IsFrom, AreFrom, minor_limit}
+use Rattle.smp_kernel.proofs.{Limits.{entry_within, Within-from_entries}, Independence.{push_independent}, Existence.{has_circuit}}
+use Rattle.smp_kernel.proofs.{SearchLaw.{together}, TableSizes.{table_fits}, CircuitSizes.{circuits_within}}
+use Rattle.smp_kernel.specs.{Vectors.{Within}, RowReduction.{cut, AreIndependent, IsCircuit, IsDependent, TableFits}, Answers.{Closes}}
+use Rattle.smp_kernel.specs.{Searches.{IsFound, IsTooWide}, Minors.{IsFrom, AreFrom, minor_limit}}
 
 more_within : (a b : ℕ) → a ≤ b → (v : List ℤ) → Within a v → Within b v
 more_within a b h v w = Within-from_entries b v (λ i l. omega (arith, h, entry_within a v w i))

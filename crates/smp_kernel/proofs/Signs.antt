@@ -1,14 +1,9 @@
 -- A primitive row is, up to its sign, what is left of any multiple of it.
 use Rattle.std.proofs.Common.{◌≡◌, ℕ, ◌<◌, List, length, ℤ, pos, neg_ℤ, ◌+ℤ◌, ◌*ℤ◌, ◌<ℤ◌, arith, sym, ap, subst, ◌∙◌, inl, inr}
-use Rattle.std.proofs.lemmas.Int.{ints}
-use Rattle.std.proofs.lemmas.Bool.{cases_lt}
-use Rattle.std.proofs.lemmas.List.{get_or_past}
+use Rattle.std.proofs.{lemmas.Int.{ints}, lemmas.Bool.{cases_lt}, lemmas.List.{get_or_past}}
 use Rattle.std.specs.Int.RustNames.{unsigned_abs}
-use Rattle.smp_kernel.specs.Kept.Steps.{cleared_row}
-use Rattle.smp_kernel.specs.Reduced.{IsReduced}
-use Rattle.smp_kernel.specs.Vectors.{IsPrimitive, entry, plus, times}
-use Rattle.smp_kernel.proofs.Dot.{entry-plus, entry-times}
-use Rattle.smp_kernel.proofs.Ring.{neg-*ℤ}
+use Rattle.smp_kernel.specs.{Kept.Steps.{cleared_row}, Reduced.{IsReduced}, Vectors.{IsPrimitive, entry, plus, times}}
+use Rattle.smp_kernel.proofs.{Dot.{entry-plus, entry-times}, Ring.{neg-*ℤ}}
 use lib.IntN.{*ℤ_comm}
 use Prim.Native.Nat.{◌∣◌}
 

@@ -1,20 +1,13 @@
 -- Independent columns have a minor other than 0 in their used rows. So the entries of their table are at most minors.
 use Rattle.std.proofs.Common.{◌≡◌, ◌≢◌, ℕ, zero, suc, ◌+◌, ◌<◌, ◌≤◌, List, [], ◌∷◌, ◌++◌, ℤ, pos, ◌*ℤ◌, length, take, take_all, get_or, arith, sym, refl, ap, ◌∙◌, subst, inl, inr, le_of_suc-le-suc, suc-le-suc, zero-lt-suc}
-use Rattle.std.proofs.lemmas.Bool.{cases_lt}
-use Rattle.std.proofs.lemmas.Int.{ints}
-use Rattle.std.proofs.lemmas.List.{append-nil, get_or_past, take_more}
-use Rattle.std.specs.Int.RustNames.{unsigned_abs}
-use Rattle.std.specs.List.{Contains}
-use Rattle.smp_kernel.proofs.Ring.{abs_zero, zero_of_product, zero_left, zero_right}
-use Rattle.smp_kernel.proofs.Dot.{dot-nil, unit_same, unit_other}
-use Rattle.smp_kernel.proofs.Lists.{contains_cases, contains_at, get_or_default}
-use Rattle.smp_kernel.proofs.Columns.{open_apart, open_entry, is_dependent}
-use Rattle.smp_kernel.proofs.Independence.{front_independent, last_independent}
-use Rattle.smp_kernel.proofs.UsedLists.{next_used, used_none, used_push, used_unique}
+use Rattle.std.proofs.{lemmas.Bool.{cases_lt}, lemmas.Int.{ints}, lemmas.List.{append-nil, get_or_past, take_more}}
+use Rattle.std.specs.{Int.RustNames.{unsigned_abs}, List.{Contains}}
+use Rattle.smp_kernel.proofs.{Ring.{abs_zero, zero_of_product, zero_left, zero_right}, Dot.{dot-nil, unit_same, unit_other}}
+use Rattle.smp_kernel.proofs.{Lists.{contains_cases, contains_at, get_or_default}, Columns.{open_apart, open_entry, is_dependent}}
+use Rattle.smp_kernel.proofs.{Independence.{front_independent, last_independent}, UsedLists.{next_used, used_none, used_push, used_unique}}
 use Rattle.smp_kernel.proofs.Existence.{AllShort, HasElimination, IsFirst, first_or, elimination_of, elimination_to}
 use Rattle.smp_kernel.proofs.Minors.{entry_bound, less_zero, meet, meet_one, minor_alternates, minus_zero, repeated, sum_single, to_front, contains_split}
-use Rattle.smp_kernel.specs.Vectors.{entry, dot, unit}
-use Rattle.smp_kernel.specs.RowReduction.{AreIndependent, IsUsed, IsTableRow}
+use Rattle.smp_kernel.specs.{Vectors.{entry, dot, unit}, RowReduction.{AreIndependent, IsUsed, IsTableRow}}
 use Rattle.smp_kernel.specs.Minors.{wedge, minor, IsOrthogonal}
 
 pub orth_from : (e : List ℤ) (cs : List (List ℤ)) → ((j : ℕ) → dot e (get_or cs j []) ≡ pos 0) → IsOrthogonal e cs

@@ -1,17 +1,12 @@
 -- No entry of a table passes half of the permutations times the product of the bounds of all rows.
 use Rattle.std.proofs.Common.{◌≡◌, ℕ, zero, suc, ◌+◌, ◌*◌, ◌<◌, ◌≤◌, List, [], ◌∷◌, ◌++◌, ℤ, length, get_or, arith, sym, refl, ap, ◌∙◌, subst, inl, inr, le_of_suc-le-suc, suc-le-suc, zero-lt-suc, mul-le-mul}
 use Rattle.std.proofs.lemmas.Bool.{cases_eq}
-use Rattle.std.specs.Int.RustNames.{unsigned_abs}
-use Rattle.std.specs.List.{Contains}
-use Rattle.smp_kernel.proofs.Lists.{contains_cases, get_or_default}
-use Rattle.smp_kernel.proofs.Limits.{Within-from_entries}
-use Rattle.smp_kernel.proofs.UsedLists.{used_unique}
-use Rattle.smp_kernel.proofs.Existence.{AllShort, HasElimination, elimination_of, cut_short}
-use Rattle.smp_kernel.proofs.Minors.{split_rows, contains_split}
+use Rattle.std.specs.{Int.RustNames.{unsigned_abs}, List.{Contains}}
+use Rattle.smp_kernel.proofs.{Lists.{contains_cases, get_or_default}, Limits.{Within-from_entries}, UsedLists.{used_unique}}
+use Rattle.smp_kernel.proofs.{Existence.{AllShort, HasElimination, elimination_of, cut_short}, Minors.{split_rows, contains_split}}
 use Rattle.smp_kernel.proofs.MinorSizes.{minor_bound}
 use Rattle.smp_kernel.proofs.TableMinors.{open_bound, used_bound, parts, below_front, used_below, off_open, off_used}
-use Rattle.smp_kernel.specs.Vectors.{entry, Within}
-use Rattle.smp_kernel.specs.RowReduction.{cut, AreIndependent, IsUsed, IsTableRow, TableFits}
+use Rattle.smp_kernel.specs.{Vectors.{entry, Within}, RowReduction.{cut, AreIndependent, IsUsed, IsTableRow, TableFits}}
 use Rattle.smp_kernel.specs.Minors.{minor, AreFrom, sign_count, row_product, product_below, minor_limit}
 
 -- ---- rows, each once

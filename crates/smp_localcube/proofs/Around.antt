@@ -1,29 +1,19 @@
 -- The search around a head.
 use Rattle.std.proofs.Common.{◌≡◌, ℕ, ◌+◌, ◌-◌, ◌<◌, ◌≤◌, true, ℤ, List, [], ◌∷◌, ◌++◌, Option, length, take, length-take, arith, sym, ap, ◌∙◌, subst}
-use Rattle.std.specs.Prelude.{IfSome}
-use Rattle.std.specs.List.{filter, range_with_len}
+use Rattle.std.specs.{Prelude.{IfSome}, List.{filter, range_with_len}}
 use Rattle.std.proofs.lemmas.Bool.{true≢false}
 use Rattle.smp_near.specs.Nearest.{LivingPoints, neighbours}
 use Rattle.smp_prob.specs.Shares.{Shares}
 use Rattle.smp_values.specs.Values.{fractional_units, is_fractional}
 use Rattle.smp_values.proofs.Units.{fractional_within}
-use Rattle.smp_flight.specs.Answers.{AreSearched}
-use Rattle.smp_flight.specs.Kept.Windows.{is_in}
+use Rattle.smp_flight.specs.{Answers.{AreSearched}, Kept.Windows.{is_in}, Selections.{IsWholeOrder}, States.{IsFlight, Tracked, Units}}
 use Rattle.smp_moves.specs.Moves.{IsOrder}
-use Rattle.smp_flight.specs.Selections.{IsWholeOrder}
-use Rattle.smp_flight.specs.States.{IsFlight, Tracked, Units}
-use Rattle.smp_flight.specs.declared.steps.Next.{Next as Answer}
-use Rattle.smp_flight.specs.Steps.{next_on}
-use Rattle.smp_moves.proofs.Filtered.{filter_twice}
-use Rattle.smp_moves.proofs.Entries.{order_front}
-use Rattle.smp_flight.specs.Laws.Firsts.{fractional_in, from_each, in_front}
-use Rattle.smp_flight.specs.Laws.NextProperties.{next_on_front}
-use Rattle.smp_flight.specs.Laws.WholeOrders.{in_order_going, whole_length}
-use Rattle.smp_localcube.specs.Local.{IsCarried, front_of, is_one_of, order_around, untouched}
-use Rattle.smp_localcube.specs.Kept.States.{IsSearched, touched_in}
-use Rattle.smp_localcube.specs.Laws.Orders.{filter_again, whole as whole_order}
+use Rattle.smp_flight.specs.{declared.steps.Next.{Next as Answer}, Steps.{next_on}, Laws.Firsts.{fractional_in, from_each, in_front}}
+use Rattle.smp_moves.proofs.{Filtered.{filter_twice}, Entries.{order_front}}
+use Rattle.smp_flight.specs.{Laws.NextProperties.{next_on_front}, Laws.WholeOrders.{in_order_going, whole_length}}
+use Rattle.smp_localcube.specs.{Local.{IsCarried, front_of, is_one_of, order_around, untouched}, Kept.States.{IsSearched, touched_in}}
+use Rattle.smp_localcube.specs.{Laws.Orders.{filter_again, whole as whole_order}, Laws.Splits.{HasHead}}
 use Rattle.smp_flight.proofs.Free.{in_filter}
-use Rattle.smp_localcube.specs.Laws.Splits.{HasHead}
 
 module _ (f : Tracked) (ok : IsOrder f.flight.values f.window) where
   -- the touched units are the window in rising order

@@ -1,17 +1,12 @@
 -- The unit that a choice finds by its weights.
 use Rattle.std.proofs.Common.{◌≡◌, ℕ, zero, suc, ◌+◌, ◌<◌, ◌≤◌, true, false, cond, ℤ, List, [], length, get_or, arith, refl, sym, ap, ◌∙◌, if◌then◌else◌, inl, inr}
-use Rattle.std.proofs.lemmas.Bool.{cases_Bool}
-use Rattle.std.proofs.lemmas.List.{get_or-map, length-map}
-use Rattle.std.proofs.lemmas.List.FromFn.{length-map-range_with_len}
+use Rattle.std.proofs.{lemmas.Bool.{cases_Bool}, lemmas.List.{get_or-map, length-map}, lemmas.List.FromFn.{length-map-range_with_len}}
 use Rattle.smp_places.specs.Amounts.{sum_before}
 use Rattle.smp_places.proofs.Summing.{before_more, before_none}
 use Rattle.smp_prob.specs.Shares.{Shares}
 use Rattle.smp_values.specs.Values.{fractional_at, is_fractional}
 use Rattle.smp_values.proofs.Units.{count_before, count_before_more, fractional_at-before}
-use Rattle.smp_localcube.specs.Kept.States.{weights_of}
-use Rattle.smp_localcube.specs.Laws.Orders.{untouched_at}
-use Rattle.smp_localcube.specs.Local.{untouched}
-use Rattle.smp_localcube.specs.Kept.Orders.{is_untouched}
+use Rattle.smp_localcube.specs.{Kept.States.{weights_of}, Laws.Orders.{untouched_at}, Local.{untouched}, Kept.Orders.{is_untouched}}
 
 module _ (coords : List (List ℤ)) (s : Shares) where
   abbrev weights : List ℕ

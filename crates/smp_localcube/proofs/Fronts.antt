@@ -1,34 +1,21 @@
 -- The search of the local cube begins with the touched units.
 use Rattle.std.proofs.Common.{◌≡◌, ◌≢◌, ℕ, Bool, true, false, not, nat_eq, ◌||◌, ◌⊎◌, ℤ, List, [], ◌∷◌, ◌++◌, pos, Option, Some, None, refl, sym, ap, ◌∙◌, subst, inl, inr}
-use Rattle.std.specs.Prelude.{option_map, unwrap_or}
-use Rattle.std.specs.Int.RustNames.{unsigned_abs}
-use Rattle.std.specs.List.{filter}
-use Rattle.std.proofs.lemmas.Bool.{cases_Bool, ne_eqb, or_left, or_right, true≢false}
-use Rattle.std.proofs.lemmas.List.Elements.{All-filter}
+use Rattle.std.specs.{Prelude.{option_map, unwrap_or}, Int.RustNames.{unsigned_abs}, List.{filter}}
+use Rattle.std.proofs.{lemmas.Bool.{cases_Bool, ne_eqb, or_left, or_right, true≢false}, lemmas.List.Elements.{All-filter}}
 use Rattle.std.proofs.lemmas.List.Kept.{AllPairs-filter}
 use Rattle.smp_near.specs.Nearest.{neighbours}
 use Rattle.smp_kernel.proofs.Ring.{abs_zero}
 use Rattle.smp_prob.specs.Shares.{Shares}
-use Rattle.smp_split.specs.Trees.{Part, EachPart}
-use Rattle.smp_split.specs.declared.kind.Kind.{Kind}
+use Rattle.smp_split.specs.{Trees.{Part, EachPart}, declared.kind.Kind.{Kind}, Laws.Parts.{each_equal}}
 use Rattle.smp_split.specs.declared.kind.Kind.TheVariants as kind
-use Rattle.smp_split.specs.Laws.Parts.{each_equal}
 use Rattle.smp_values.specs.Values.{fractional_at, fractional_count, fractional_units, is_fractional}
-use Rattle.smp_moves.specs.Cubes.{flying, pairing, flight_kind, values_in}
-use Rattle.smp_moves.specs.Moves.{IsLine, Move, Next, entry_of, independent, move, wide}
-use Rattle.smp_moves.proofs.Entries.{frame_order}
-use Rattle.smp_flight.specs.Kept.Windows.{is_in}
-use Rattle.smp_flight.specs.Selections.{Balancing, IsBalancing}
-use Rattle.smp_flight.specs.States.{Flight, IsFlight, Units}
-use Rattle.smp_flight.specs.Steps.{chosen, next_on}
-use Rattle.smp_flight.specs.Laws.ByOrder.{knows}
-use Rattle.smp_flight.specs.Laws.Firsts.{changed_in, fractional_in}
-use Rattle.smp_flight.proofs.NeverWide.{IsNextFront, KeepsFront}
+use Rattle.smp_moves.specs.{Cubes.{flying, pairing, flight_kind, values_in}, Moves.{IsLine, Move, Next, entry_of, independent, move, wide}}
+use Rattle.smp_moves.proofs.{Entries.{frame_order}, Flights.{flies_not}}
+use Rattle.smp_flight.specs.{Kept.Windows.{is_in}, Selections.{Balancing, IsBalancing}, States.{Flight, IsFlight, Units}}
+use Rattle.smp_flight.specs.{Steps.{chosen, next_on}, Laws.ByOrder.{knows}, Laws.Firsts.{changed_in, fractional_in}}
+use Rattle.smp_flight.proofs.{NeverWide.{IsNextFront, KeepsFront}, Free.{out_filter, in_filter}, Owed.{no_choice}}
 use Rattle.smp_localcube.specs.Local.{AreCarried, IsCarried, IsLocal, Local, after, head_of, is_one_of, local_of, next_from, order_around, order_from, kind_from, parts_from, parts_in_flight, untouched}
-use Rattle.smp_flight.proofs.Free.{out_filter, in_filter}
 use Rattle.smp_localcube.specs.Laws.Splits.{next_around, order_whole}
-use Rattle.smp_moves.proofs.Flights.{flies_not}
-use Rattle.smp_flight.proofs.Owed.{no_choice}
 
 abbrev kind_of : Option Next → Kind
 kind_of next = unwrap_or (option_map flight_kind next) kind.Choose

@@ -1,33 +1,20 @@
 -- What the code may rest on before a move.
 use Rattle.std.proofs.Common.{◌≡◌, ℕ, Bool, true, false, not, nat_eq, ◌||◌, ℤ, pos, neg_ℤ, List, Option, Some, None, length, arith, refl, sym, ap, ◌∙◌, subst, inl, inr}
-use Rattle.std.specs.Int.RustNames.{unsigned_abs}
-use Rattle.std.specs.List.{filter}
-use Rattle.std.specs.Prelude.{option_map}
-use Rattle.std.proofs.Math.Bool.{and-false, and-true, or-false}
+use Rattle.std.specs.{Int.RustNames.{unsigned_abs}, List.{filter}, Prelude.{option_map}}
+use Rattle.std.proofs.{Math.Bool.{and-false, and-true, or-false}, lemmas.List.{ext_get_or}, lemmas.List.FromFn.{length-map-range_with_len}}
 use Rattle.std.proofs.lemmas.Bool.{and_from, both_ways, cases_Bool, eqb-true, ne_eqb, not-false, or_left, or_right}
-use Rattle.std.proofs.lemmas.List.{ext_get_or}
-use Rattle.std.proofs.lemmas.List.FromFn.{length-map-range_with_len}
 use Rattle.smp_near.specs.Nearest.{LivingPoints, is_living}
 use Rattle.smp_prob.specs.Shares.{Shares}
 use Rattle.smp_values.specs.Values.{fractional_units, is_fractional}
-use Rattle.smp_flight.specs.States.{Flight, IsFlight, Tracked, Units}
+use Rattle.smp_flight.specs.{States.{Flight, IsFlight, Tracked, Units}, Steps.{chosen, end_at_is, next_on}, Answers.{IsNextWindow}}
 use Rattle.smp_moves.specs.Moves.{Next, chosen_line, move, IsOrder, Line, Move, entry_of}
-use Rattle.smp_flight.specs.Steps.{chosen, end_at_is, next_on}
-use Rattle.smp_flight.specs.Laws.Firsts.{contains_in, fractional_in, in_contains}
-use Rattle.smp_flight.specs.Laws.WholeOrders.{in_order_going}
-use Rattle.smp_moves.proofs.Entries.{frame_order}
-use Rattle.smp_flight.specs.Answers.{IsNextWindow}
-use Rattle.smp_flight.specs.Laws.ByOrder.{ends_at}
-use Rattle.smp_moves.proofs.Evens.{entry_of_turned}
-use Rattle.smp_moves.proofs.Moved.{same_still, same_tests}
-use Rattle.smp_flight.specs.Laws.Nexts.{flight_over}
-use Rattle.smp_localcube.proofs.Touch.{zero_size}
-use Rattle.smp_localcube.specs.Kept.States.{AreTouched, IsReady, MayTouch, is_changed, touched_in, weights_of}
-use Rattle.smp_localcube.specs.Local.{is_one_of, untouched}
-use Rattle.smp_localcube.specs.Kept.Orders.{is_untouched}
-use Rattle.smp_localcube.specs.Laws.Orders.{filter_same, untouched_at}
+use Rattle.smp_flight.specs.{Laws.Firsts.{contains_in, fractional_in, in_contains}, Laws.WholeOrders.{in_order_going}}
+use Rattle.smp_moves.proofs.{Entries.{frame_order}, Evens.{entry_of_turned}, Moved.{same_still, same_tests}}
+use Rattle.smp_flight.specs.{Laws.ByOrder.{ends_at}, Laws.Nexts.{flight_over}}
+use Rattle.smp_localcube.proofs.{Touch.{zero_size}, Around.{same_points}}
+use Rattle.smp_localcube.specs.{Kept.States.{AreTouched, IsReady, MayTouch, is_changed, touched_in, weights_of}, Kept.Orders.{is_untouched}}
+use Rattle.smp_localcube.specs.{Local.{is_one_of, untouched}, Laws.Orders.{filter_same, untouched_at}}
 use Rattle.smp_flight.proofs.Free.{out_filter, in_filter}
-use Rattle.smp_localcube.proofs.Around.{same_points}
 
 -- the head of a step that was found
 pub record HeadOf (f : ℕ → Next) (o : Option ℕ) (a : Next) : Type 0 where

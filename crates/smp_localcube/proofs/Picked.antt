@@ -2,12 +2,9 @@
 use Rattle.std.proofs.Common.{◌≡◌, ℕ, ◌+◌, ◌-◌, ◌<◌, ◌≤◌, true, nat_lt, ℤ, List, Option, Some, None, arith, refl, sym, ap, ◌∙◌, subst, inl, inr}
 use Rattle.std.proofs.lemmas.Bool.{cases_Bool, lt-ltb, ltb-false}
 use Rattle.smp_split.specs.Trees.{picked, weight_sum}
-use Rattle.smp_moves.specs.Moves.{Move, move}
-use Rattle.smp_moves.specs.Cubes.{flying}
-use Rattle.smp_flight.specs.States.{Flight, Tracked, Units}
-use Rattle.smp_flight.specs.Steps.{chosen}
-use Rattle.smp_localcube.specs.Kept.States.{touched_in}
-use Rattle.smp_localcube.specs.Local.{Local, after, next_from, parts_from, parts_in_flight}
+use Rattle.smp_moves.specs.{Moves.{Move, move}, Cubes.{flying}}
+use Rattle.smp_flight.specs.{States.{Flight, Tracked, Units}, Steps.{chosen}}
+use Rattle.smp_localcube.specs.{Kept.States.{touched_in}, Local.{Local, after, next_from, parts_from, parts_in_flight}}
 
 module _ (units : Units) (coords : List (List ℤ)) (f t : Tracked) (left : ℕ) (held : Option ℕ) (m : Move) (draw : ℕ) where
   abbrev here : Local

@@ -1,33 +1,23 @@
 -- A selection starts from the values that are requested, and is balanced.
 use Rattle.std.proofs.Common.{◌≡◌, ℕ, zero, suc, ◌<◌, ◌≤◌, Bool, true, false, ℤ, List, [], ◌∷◌, None, length, map, replicate, arith, refl, sym, ap, ◌∙◌}
 use Rattle.std.specs.List.{range_with_len}
-use Rattle.std.proofs.lemmas.Bool.{and_from}
-use Rattle.std.proofs.lemmas.List.{ext_get_or, get_or-replicate, length-replicate}
+use Rattle.std.proofs.{lemmas.Bool.{and_from}, lemmas.List.{ext_get_or, get_or-replicate, length-replicate}}
 use Rattle.std.proofs.lemmas.List.FromFn.{get_or-map-range_with_len, length-map-range_with_len}
 use Rattle.smp_near.specs.Nearest.{all_living}
 use Rattle.smp_frac.proofs.Arithmetic.{same_refl}
-use Rattle.smp_prob.specs.declared.requests.Request.{Request}
-use Rattle.smp_prob.specs.Requests.{IsRequest}
-use Rattle.smp_prob.specs.Shares.{shares_of}
+use Rattle.smp_prob.specs.{declared.requests.Request.{Request}, Requests.{IsRequest}, Shares.{shares_of}}
 use Rattle.smp_prob.proofs.Fractions.{length-numerators}
 use Rattle.smp_split.specs.Methods.{Starts}
 use Rattle.smp_split.proofs.Methods.{starts}
-use Rattle.smp_values.specs.Starts.{IsRequested}
-use Rattle.smp_values.specs.Values.{fractional_units, is_fractional, value_at}
+use Rattle.smp_values.specs.{Starts.{IsRequested}, Values.{fractional_units, is_fractional, value_at}}
 use Rattle.smp_values.proofs.Requests.{requested_values, shares_fractional}
 use Rattle.smp_flight.specs.States as flights
-use Rattle.smp_flight.specs.States.{IsFlight, Units}
-use Rattle.smp_flight.specs.Requests.{units_of}
-use Rattle.smp_flight.specs.Landings.{IsBalanced}
-use Rattle.smp_flight.proofs.Owed.{selection_balanced}
-use Rattle.smp_flight.proofs.WholeSums.{leaves_count}
+use Rattle.smp_flight.specs.{States.{IsFlight, Units}, Requests.{units_of}, Landings.{IsBalanced}}
+use Rattle.smp_flight.proofs.{Owed.{selection_balanced}, WholeSums.{leaves_count}}
 use Rattle.smp_localcube.proofs.Fronts.{IsFront, keeps_front}
-use Rattle.smp_localcube.specs.Local.{IsLocal, local_of, local_tree, untouched}
-use Rattle.smp_localcube.specs.Kept.Orders.{is_untouched}
-use Rattle.smp_localcube.specs.Kept.States.{IsPlaced, IsReady, IsSearched, touched_in, weights_of}
+use Rattle.smp_localcube.specs.{Local.{IsLocal, local_of, local_tree, untouched}, Kept.Orders.{is_untouched}, Laws.Orders.{filter_none}}
+use Rattle.smp_localcube.specs.{Kept.States.{IsPlaced, IsReady, IsSearched, touched_in, weights_of}, Laws.Splits.{is_local_cube}}
 use Rattle.smp_localcube.specs.Method.{LocalUnits, method_of, started}
-use Rattle.smp_localcube.specs.Laws.Orders.{filter_none}
-use Rattle.smp_localcube.specs.Laws.Splits.{is_local_cube}
 
 pub starts_requested : (request : Request) (xs coords : List (List ℤ)) → IsRequest request → IsRequested (local_tree (units_of request xs)) request (started (record { units = units_of request xs; coords = coords }))
 starts_requested request xs coords is =

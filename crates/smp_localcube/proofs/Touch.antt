@@ -1,30 +1,22 @@
 -- The units that a line changes are taken out of the living points.
 use Rattle.std.proofs.Common.{◌≡◌, ◌≢◌, ℕ, zero, suc, ◌+◌, ◌<◌, ◌≤◌, Bool, true, false, not, nat_eq, ◌&&◌, cond, if◌then◌else◌, ℤ, pos, List, [], ◌∷◌, length, map, get_or, set, take, arith, refl, sym, ap, ◌∙◌, subst, inl, inr, suc-le-suc, Option, Some, None, length-take, length-set, get_or-take}
-use Rattle.std.specs.Prelude.{option_map}
-use Rattle.std.specs.List.{range_with_len, sum, sum_by}
-use Rattle.std.proofs.lemmas.List.Sums.{sum-map, sum_by-cons}
-use Rattle.std.specs.Int.RustNames.{unsigned_abs}
-use Rattle.std.proofs.Math.Bool.{and-false}
+use Rattle.std.specs.{Prelude.{option_map}, List.{range_with_len, sum, sum_by}, Int.RustNames.{unsigned_abs}}
+use Rattle.std.proofs.{lemmas.List.Sums.{sum-map, sum_by-cons}, Math.Bool.{and-false}, lemmas.Int.{ints}}
 use Rattle.std.proofs.lemmas.Bool.{and_from, cases_Bool, cases_eq, eq-eqb, ne_eqb}
 use Rattle.std.proofs.lemmas.List.{get_or-set_other, get_or-set_same, get_or_default, map-set}
-use Rattle.std.proofs.lemmas.Int.{ints}
 use Rattle.smp_kernel.specs.Vectors.{entry}
 use Rattle.smp_near.specs.Nearest.{LivingPoints, is_living, removed}
 use Rattle.smp_prob.specs.Shares.{Shares}
-use Rattle.smp_split.specs.Trees.{Part, weight_sum}
+use Rattle.smp_split.specs.{Trees.{Part, weight_sum}, Laws.Parts.{weight_sum-equal}}
 use Rattle.smp_split.proofs.Counts.{count_by-indices, sum_by-map}
-use Rattle.smp_split.specs.Laws.Parts.{weight_sum-equal}
 use Rattle.smp_values.specs.Values.{fractional, fractional_at, fractional_count, is_fractional}
-use Rattle.smp_moves.specs.Cubes.{flying}
+use Rattle.smp_moves.specs.{Cubes.{flying}, Moves.{Next, IsLine, entry_at, entry_of}, Answers.{line_of}}
 use Rattle.smp_flight.specs.States.{Tracked, Units}
-use Rattle.smp_moves.specs.Moves.{Next, IsLine, entry_at, entry_of}
 use Rattle.smp_moves.proofs.Entries.{entry_at_none, order_going}
-use Rattle.smp_moves.specs.Answers.{line_of}
 use Rattle.smp_moves.specs.declared.lines.Line.{Line as LineOfPlaces}
 use Rattle.smp_values.proofs.Units.{fractional_within}
 use Rattle.smp_localcube.specs.Kept.States.{AreTouched, IsReady, MayTouch, is_changed, line_to, step_around, touched_in, weights_of}
-use Rattle.smp_localcube.specs.Kept.Orders.{is_untouched}
-use Rattle.smp_localcube.specs.Local.{Local, head_of, is_one_of, parts_from, parts_in_flight, untouched}
+use Rattle.smp_localcube.specs.{Kept.Orders.{is_untouched}, Local.{Local, head_of, is_one_of, parts_from, parts_in_flight, untouched}}
 
 -- one place more of a line whose units are different
 pub entry_at_more : (us : List ℕ) (es : List ℤ) (n k : ℕ) → n < length us → n < length es → ((j : ℕ) → j < n → get_or us j 0 ≢ get_or us n 0) →

@@ -2,24 +2,15 @@
 use Rattle.std.proofs.Common.{◌≡◌, ◌≢◌, ℕ, ◌^◌, false, nat_eq, nat_lt, Option, Some, None, get_or, arith, refl, inl, inr}
 use Rattle.std.specs.List.{sum}
 use Rattle.std.proofs.lemmas.Bool.{cases_Bool, eqb-false, ltb-false}
-use Rattle.smp_frac.specs.Bounds.{IsAround}
-use Rattle.smp_frac.specs.Fractions.{over}
+use Rattle.smp_frac.specs.{Bounds.{IsAround}, Fractions.{over}}
 use Rattle.smp_frac.proofs.Arithmetic.{same_refl}
-use Rattle.smp_split.specs.Counts.{LeavesSelectAround}
-use Rattle.smp_split.specs.Trees.{EachPart}
-use Rattle.smp_split.proofs.Counts.{KeepsCount, leaves_around, count_by-indices}
-use Rattle.smp_split.specs.Laws.Parts.{each_equal, each_moved}
-use Rattle.smp_split.proofs.Sums.{list_sum}
-use Rattle.smp_values.specs.Steps.{lone_parts, pair_parts}
-use Rattle.smp_values.specs.Values.{fractional_at, fractional_count, is_settled, value_at}
-use Rattle.smp_values.proofs.Designs.{each_settled}
-use Rattle.smp_values.proofs.LawfulSteps.{pair_near}
-use Rattle.smp_values.proofs.Fractional.{fractional_is}
-use Rattle.smp_values.proofs.Near.{IsNear, lone_near, near_count, near_same}
-use Rattle.smp_values.proofs.Units.{fractional_at_is, fractional_within}
+use Rattle.smp_split.specs.{Counts.{LeavesSelectAround}, Trees.{EachPart}, Laws.Parts.{each_equal, each_moved}}
+use Rattle.smp_split.proofs.{Counts.{KeepsCount, leaves_around, count_by-indices}, Sums.{list_sum}}
+use Rattle.smp_values.specs.{Steps.{lone_parts, pair_parts}, Values.{fractional_at, fractional_count, is_settled, value_at}}
+use Rattle.smp_values.proofs.{Designs.{each_settled}, LawfulSteps.{pair_near}, Fractional.{fractional_is}}
+use Rattle.smp_values.proofs.{Near.{IsNear, lone_near, near_count, near_same}, Units.{fractional_at_is, fractional_within}}
 use Rattle.smp_localpiv.specs.Local.{Local, IsChosen, IsLocal, choosing, local_tree, neighbour, parts_from, located_values}
-use Rattle.smp_localpiv.specs.Laws.Neighbours.{met}
-use Rattle.smp_localpiv.specs.Laws.Splits.{local_lawful}
+use Rattle.smp_localpiv.specs.{Laws.Neighbours.{met}, Laws.Splits.{local_lawful}}
 
 module _ (units total den : ℕ) where
   -- each step keeps the sum of the values, but for the last one on a unit alone

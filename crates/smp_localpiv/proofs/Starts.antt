@@ -3,21 +3,14 @@ use Rattle.std.proofs.Common.{◌≡◌, ℕ, ◌≤◌, Bool, true, List, [], �
 use Rattle.std.specs.Prelude.{ℤ}
 use Rattle.smp_frac.proofs.Arithmetic.{same_refl}
 use Rattle.smp_near.specs.Nearest.{all_living}
-use Rattle.smp_prob.specs.declared.requests.Request.{Request}
-use Rattle.smp_prob.specs.Requests.{IsRequest}
-use Rattle.smp_prob.specs.Shares.{Shares, numerators, shares_of}
+use Rattle.smp_prob.specs.{declared.requests.Request.{Request}, Requests.{IsRequest}, Shares.{Shares, numerators, shares_of}}
 use Rattle.smp_prob.proofs.Fractions.{length-numerators}
-use Rattle.smp_split.specs.Counts.{LeavesSelectAround}
-use Rattle.smp_split.specs.Methods.{Starts}
+use Rattle.smp_split.specs.{Counts.{LeavesSelectAround}, Methods.{Starts}}
 use Rattle.smp_split.proofs.Methods.{starts_around}
-use Rattle.smp_values.specs.Starts.{IsRequested}
-use Rattle.smp_values.specs.Values.{fractional, value_at}
+use Rattle.smp_values.specs.{Starts.{IsRequested}, Values.{fractional, value_at}}
 use Rattle.smp_values.proofs.Requests.{few_shares, requested_values, shares_fractional, shares_in_range}
-use Rattle.smp_localpiv.specs.Local.{IsLocal, local_tree, located_values}
-use Rattle.smp_localpiv.specs.Method.{method_of, started}
-use Rattle.smp_localpiv.specs.Kept.States.{IsOpen, IsWeighed}
-use Rattle.smp_localpiv.proofs.Counts.{leaf_around}
-use Rattle.smp_localpiv.proofs.Weights.{all_ones}
+use Rattle.smp_localpiv.specs.{Local.{IsLocal, local_tree, located_values}, Method.{method_of, started}, Kept.States.{IsOpen, IsWeighed}}
+use Rattle.smp_localpiv.proofs.{Counts.{leaf_around}, Weights.{all_ones}}
 
 -- the points of values that are all fractional are all living
 all_alive : (den : ℕ) (xs : List ℕ) → ((k : ℕ) → k < length xs → fractional den (get_or xs k 0) ≡ true) → replicate (length xs) true ≡ map (fractional den) xs

@@ -1,19 +1,14 @@
 -- What the code keeps of a state, and the steps of a state in which no unit is chosen.
 use Rattle.std.specs.Prelude.{ℤ}
 use Rattle.std.proofs.Common.{◌≡◌, ℕ, ◌<◌, ◌≤◌, Bool, true, false, nat_lt, List, Option, Some, None, length, map, get_or, set, refl, sym, ap, ◌∙◌, subst, arith}
-use Rattle.std.proofs.Math.Seq.{map-set_same}
-use Rattle.std.proofs.lemmas.Bool.{and_parts, lt-ltb, ltb-true, le-ltb}
-use Rattle.std.proofs.lemmas.List.{get_or-set_same, map-set}
+use Rattle.std.proofs.{Math.Seq.{map-set_same}, lemmas.Bool.{and_parts, lt-ltb, ltb-true, le-ltb}, lemmas.List.{get_or-set_same, map-set}}
 use Rattle.smp_near.specs.Nearest.{LivingPoints, nearest}
 use Rattle.smp_prob.specs.Shares.{Shares}
-use Rattle.smp_split.specs.Trees.{Part, weight_sum, picked}
-use Rattle.smp_split.specs.Laws.Parts.{weight_sum-equal, picked-equal}
-use Rattle.smp_values.specs.Pairs.{pair_bound}
-use Rattle.smp_values.specs.Values.{fractional, fractional_at, fractional_count, is_fractional, with_one}
+use Rattle.smp_split.specs.{Trees.{Part, weight_sum, picked}, Laws.Parts.{weight_sum-equal, picked-equal}}
+use Rattle.smp_values.specs.{Pairs.{pair_bound}, Values.{fractional, fractional_at, fractional_count, is_fractional, with_one}}
 use Rattle.smp_values.proofs.Units.{fractional_within}
 use Rattle.smp_localpiv.specs.Local.{IsChosen, IsLocal, Local, MayMeet, located_values, choice, choosing, neighbour, parts_from, points_of, settling}
-use Rattle.smp_localpiv.specs.Kept.States.{IsPaired, IsWeighed, chosen_unit}
-use Rattle.smp_localpiv.specs.Laws.Neighbours.{IsMet, met}
+use Rattle.smp_localpiv.specs.{Kept.States.{IsPaired, IsWeighed, chosen_unit}, Laws.Neighbours.{IsMet, met}}
 use Rattle.smp_localpiv.proofs.Weights.{weights_open, weights_settled}
 
 -- ---- the points

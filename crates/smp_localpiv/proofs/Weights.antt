@@ -1,9 +1,7 @@
 -- The weights of units in a choice, and the fractional unit at a place among them.
 use Rattle.std.proofs.Common.{◌≡◌, ℕ, zero, suc, ◌+◌, ◌<◌, ◌≤◌, true, false, cond, List, [], ◌∷◌, length, map, replicate, get_or, set, refl, sym, ap, ◌∙◌, arith, inl, inr}
 use Rattle.std.specs.List.{sum}
-use Rattle.std.proofs.Math.Seq.{map-set_same}
-use Rattle.std.proofs.lemmas.Bool.{cases_Bool}
-use Rattle.std.proofs.lemmas.List.{get_or-map, length-map, map-set}
+use Rattle.std.proofs.{Math.Seq.{map-set_same}, lemmas.Bool.{cases_Bool}, lemmas.List.{get_or-map, length-map, map-set}}
 use Rattle.std.proofs.lemmas.List.Sums.{sum-map}
 use Rattle.smp_places.specs.Amounts.{sum_before}
 use Rattle.smp_places.proofs.Summing.{before_more, before_none}

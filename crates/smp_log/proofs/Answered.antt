@@ -1,18 +1,13 @@
 -- The function answers what the definitions say.
 use Rattle.std.proofs.Common.{◌≡◌, ℕ, ◌+◌, ◌≤◌, ◌==◌, ◌&&◌, Bool, true, false, List, length, Option, Some, None, Result, Ok, Err, refl, sym, ap, ◌∙◌, subst, arith}
 use Rattle.std.specs.Str.{bytes_eq}
-use Rattle.std.proofs.lemmas.Bool.{and_parts, and_from, eqb-true, eq-eqb}
-use Rattle.std.proofs.lemmas.Slice.Eq.{bytes_eq-Decides}
+use Rattle.std.proofs.{lemmas.Bool.{and_parts, and_from, eqb-true, eq-eqb}, lemmas.Slice.Eq.{bytes_eq-Decides}}
 use Rattle.smp_split.specs.Trees.{Tree, Lawful}
-use Rattle.smp_log.specs.Lines.{whole_lines, lines_text}
-use Rattle.smp_log.specs.Heads.{IsHead}
-use Rattle.smp_log.specs.Genuine.{IsGenuine, DiffersAt}
+use Rattle.smp_log.specs.{Lines.{whole_lines, lines_text}, Heads.{IsHead}, Genuine.{IsGenuine, DiffersAt}}
 use Rattle.smp_log.specs.Reading.{Script, follows, LogPlace, heading, stepping, closed, before, end_line, log_script}
 use Rattle.smp_log.specs.Answers.{IsAnswer, IsExactReading, answer_of, read_by, log_leaf, log_reading}
-use Rattle.smp_log.proofs.Scripts.{accepted_follows, follows_accepted}
-use Rattle.smp_log.proofs.Described.{Describes, whole_text, kept}
+use Rattle.smp_log.proofs.{Scripts.{accepted_follows, follows_accepted}, Described.{Describes, whole_text, kept}, Kept.{described}}
 use Rattle.smp_log.proofs.Heads.{head_lines, head_lines_are}
-use Rattle.smp_log.proofs.Kept.{described}
 
 module _ {Place State : Type 0} (script : Script Place) (start : Place) (closed_at : State → Place) (Genuine : List ℕ → State → Type 0) (d : Describes script start closed_at Genuine)
     (leaf_of : Place → Option State) (tells : (s : State) → leaf_of (closed_at s) ≡ Some s) (told : (p : Place) (s : State) → leaf_of p ≡ Some s → p ≡ closed_at s) (log : List ℕ) where

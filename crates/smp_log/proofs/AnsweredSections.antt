@@ -1,15 +1,10 @@
 -- The function answers of a log of version 2 what the definitions say.
 use Rattle.std.proofs.Common.{◌≡◌, ℕ, List, Option, Some, None, Err, refl, sym, ap, ◌∙◌, subst}
-use Rattle.smp_split.specs.Trees.{Tree, Lawful}
-use Rattle.smp_split.specs.Sectioning.{Sectioning, IsSectioned}
-use Rattle.smp_log.specs.Lines.{whole_lines}
-use Rattle.smp_log.specs.Heads.{IsHead}
-use Rattle.smp_log.specs.Answers.{IsAnswer, IsExactAnswer, read_by}
-use Rattle.smp_log.specs.Genuine.{DiffersAt}
+use Rattle.smp_split.specs.{Trees.{Tree, Lawful}, Sectioning.{Sectioning, IsSectioned}}
+use Rattle.smp_log.specs.{Lines.{whole_lines}, Heads.{IsHead}, Answers.{IsAnswer, IsExactAnswer, read_by}, Genuine.{DiffersAt}}
 use Rattle.smp_log.specs.SectionLogs.{sectioned_head, IsSectionedGenuine}
 use Rattle.smp_log.specs.SectionReading.{SectionPlace, heading, opening, inside, closed, before, section_script, section_leaf, sectioned_reading}
-use Rattle.smp_log.proofs.Answered.{read_right, read_alone}
-use Rattle.smp_log.proofs.Described.{Describes, whole_text}
+use Rattle.smp_log.proofs.{Answered.{read_right, read_alone}, Described.{Describes, whole_text}}
 use Rattle.smp_log.proofs.KeptSections.{sectioned_head_lines, sectioned_head_lines_are, sectioned_head-text, described}
 
 module _ {State : Type 0} (tree : Tree State) (belongs : State → Type 0) (lawful : Lawful tree belongs) (sections : Sectioning State) (sectioned : IsSectioned tree belongs sections) (from : State) (member : belongs from) (head : List ℕ) (h : IsHead head) (log : List ℕ) where

@@ -2,14 +2,10 @@
 use Rattle.std.proofs.Common.{◌≡◌, ℕ, ◌+◌, ◌<◌, ◌≤◌, true, false, List, [], ◌∷◌, ◌++◌, length, take, Option, Some, None, refl, sym, ap, ◌∙◌, subst, arith, length-append, inl, inr, ◌⊎◌}
 use Rattle.std.proofs.lemmas.List.{append-nil, take_at, length-take-le}
 use Rattle.smp_frac.specs.Cuts.{cut_at}
-use Rattle.smp_log.specs.Lines.{whole_lines, lines_text, AreLines}
-use Rattle.smp_split.specs.Trees.{Tree}
-use Rattle.smp_split.specs.Paths.{Entry, Leads}
-use Rattle.smp_log.specs.Genuine.{IsKept, DiffersAt, IsLogOf}
-use Rattle.smp_log.specs.Reading.{Script, follows}
-use Rattle.smp_log.proofs.Texts.{whole_lines-text}
+use Rattle.smp_log.specs.{Lines.{whole_lines, lines_text, AreLines}, Genuine.{IsKept, DiffersAt, IsLogOf}, Reading.{Script, follows}}
+use Rattle.smp_split.specs.{Trees.{Tree}, Paths.{Entry, Leads}}
+use Rattle.smp_log.proofs.{Texts.{whole_lines-text}, Reached.{LeadsAlong, Reached, follows-append, stuck, accepted_along}}
 use Rattle.smp_log.proofs.Scripts.{Accepts, Begins, Ends, follows-le, follows-none, accepted_follows, most, begins}
-use Rattle.smp_log.proofs.Reached.{LeadsAlong, Reached, follows-append, stuck, accepted_along}
 
 -- a text of these whole lines
 pub whole_text : (lines : List (List ℕ)) → AreLines lines → whole_lines (lines_text lines) ≡ lines

@@ -1,14 +1,11 @@
 -- The first line of what is left.
 use Rattle.std.proofs.Common.{◌≡◌, ℕ, ◌+◌, ◌<◌, ◌≤◌, Bool, true, false, cond, List, ◌∷◌, length, Option, Some, None, option_map, refl, sym, ap, ◌∙◌, arith, length-append, inl, inr, ◌⊎◌}
-use Rattle.std.specs.Prelude.{option_and_then}
-use Rattle.std.specs.Str.{bytes_eq}
+use Rattle.std.specs.{Prelude.{option_and_then}, Str.{bytes_eq}}
 use Rattle.std.proofs.lemmas.Slice.Eq.{bytes_eq-Decides}
 use Rattle.smp_frac.specs.Cuts.{cut_at}
 use Rattle.smp_split.specs.declared.kind.Kind.{Kind}
 use Rattle.smp_log.specs.Reading.{Script, step_value, after_line, step_first}
-use Rattle.smp_log.proofs.Options.{goes_on, mapped, some_cond}
-use Rattle.smp_log.proofs.StepLines.{step_value-is}
-use Rattle.smp_log.proofs.Texts.{cut_parts}
+use Rattle.smp_log.proofs.{Options.{goes_on, mapped, some_cond}, StepLines.{step_value-is}, Texts.{cut_parts}}
 
 none_cond : {A B : Type 0} (b : Bool) (x : A) (y : B) → cond b (Some x) None ≡ None → cond b (Some y) None ≡ None
 none_cond {A} true x y h = absurd (let e : ◌≡◌ {A = Option A} (Some x) None = h in cc)

@@ -1,8 +1,7 @@
 -- A text that agrees with a front so far.
 use Rattle.std.proofs.Common.{◌≡◌, ℕ, ◌+◌, ◌≤◌, List, [], ◌∷◌, ◌++◌, length, Some, None, sym, ap, ◌∙◌, arith, append_assoc, length-append}
 use Rattle.smp_frac.specs.Cuts.{cut_at}
-use Rattle.smp_log.specs.Lines.{whole_lines, lines_text, AreLines}
-use Rattle.smp_log.specs.Fronts.{HasOtherLine, IsCompleteLines, StopsAt}
+use Rattle.smp_log.specs.{Lines.{whole_lines, lines_text, AreLines}, Fronts.{HasOtherLine, IsCompleteLines, StopsAt}}
 use Rattle.smp_log.proofs.Texts.{cut_parts, lines_text-append, AreLines-append, whole_lines-text, whole_lines-cons, whole_lines-none}
 use Rattle.std.proofs.lemmas.List.{append-nil}
 

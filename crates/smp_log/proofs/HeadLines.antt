@@ -3,8 +3,7 @@ use Rattle.std.proofs.Common.{◌≡◌, ℕ, Bool, true, false, cond, List, [],
 use Rattle.std.specs.Str.{bytes_eq}
 use Rattle.std.proofs.lemmas.Slice.Eq.{bytes_eq-Decides}
 use Rattle.smp_log.specs.Reading.{Script}
-use Rattle.smp_log.proofs.Options.{some_cond}
-use Rattle.smp_log.proofs.Scripts.{Accepts}
+use Rattle.smp_log.proofs.{Options.{some_cond}, Scripts.{Accepts}}
 
 -- before the lines of a head: the first of them leads on, and no other line
 pub record AreHeads {Place : Type 0} (script : Script Place) (before : List (List ℕ) → Place) : Type 0 where

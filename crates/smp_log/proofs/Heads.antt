@@ -2,8 +2,7 @@
 use Rattle.std.proofs.Common.{◌≡◌, ℕ, zero, suc, ◌/◌, ◌%◌, ◌==◌, false, List, [], ◌∷◌, get_or, refl, codes}
 use Rattle.hex.specs.Hex.{encode_with, encode_lower, lower_digits}
 use Rattle.sha2.specs.Sha256.{sha256}
-use Rattle.smp_log.specs.Lines.{Lacks, AreLines}
-use Rattle.smp_log.specs.Heads.{IsHead, digest_line, head_of}
+use Rattle.smp_log.specs.{Lines.{Lacks, AreLines}, Heads.{IsHead, digest_line, head_of}}
 use Rattle.smp_log.proofs.Texts.{Lacks-cons, cons-Lacks, Lacks-append}
 
 at_lacks : (t : List ℕ) (i : ℕ) → Lacks 10 t → (get_or t i 0 == 10) ≡ false

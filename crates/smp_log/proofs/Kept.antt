@@ -1,15 +1,10 @@
 -- What a log's script follows of the whole lines of some bytes is what is kept of them, and it accepts the genuine logs alone.
 use Rattle.std.proofs.Common.{◌≡◌, ℕ, ◌+◌, List, [], ◌∷◌, ◌++◌, length, map, refl, sym, ap, ◌∙◌, arith}
-use Rattle.smp_split.specs.Trees.{Tree, Lawful}
-use Rattle.smp_split.specs.Paths.{Entry}
-use Rattle.smp_log.specs.Lines.{lines_text, AreLines}
-use Rattle.smp_log.specs.Logs.{steps_text, end_text, log_text}
-use Rattle.smp_log.specs.Genuine.{IsGenuine, IsLogText}
+use Rattle.smp_split.specs.{Trees.{Tree, Lawful}, Paths.{Entry}}
+use Rattle.smp_log.specs.{Lines.{lines_text, AreLines}, Logs.{steps_text, end_text, log_text}, Genuine.{IsGenuine, IsLogText}}
 use Rattle.smp_log.specs.Reading.{step_line, end_line, Script, LogPlace, before, closed, log_script}
-use Rattle.smp_log.proofs.Texts.{AreLines-append, lines_text-append}
-use Rattle.smp_log.proofs.StepLines.{end_line_lacks}
-use Rattle.smp_log.proofs.LineTexts.{steps_lines, end_text_line, step_lines_are}
-use Rattle.smp_log.proofs.Described.{Describes, path_log, text_accepted}
+use Rattle.smp_log.proofs.{Texts.{AreLines-append, lines_text-append}, StepLines.{end_line_lacks}}
+use Rattle.smp_log.proofs.{LineTexts.{steps_lines, end_text_line, step_lines_are}, Described.{Describes, path_log, text_accepted}}
 use Rattle.smp_log.proofs.Logs.{lines_after, path_accepted, accepted_path, head_accepted, accepted_head, Good, good_before, keeps, each_ends}
 
 pub lines_after_are : (n : ℕ) (path : List Entry) → AreLines (lines_after end_line n path)

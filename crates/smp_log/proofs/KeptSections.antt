@@ -1,22 +1,13 @@
 -- The script of logs of version 2 describes the genuine ones.
 use Rattle.std.proofs.Common.{◌≡◌, ℕ, zero, suc, ◌+◌, List, [], ◌∷◌, ◌++◌, length, map, drop, refl, sym, ap, ◌∙◌, arith, append_assoc, codes, inl}
-use Rattle.std.specs.List.{flat_map, range_with_len}
-use Rattle.std.specs.Fmt.{decimal}
+use Rattle.std.specs.{List.{flat_map, range_with_len}, Fmt.{decimal}}
 use Rattle.std.proofs.lemmas.List.{append-nil}
-use Rattle.smp_split.specs.Trees.{Tree, Lawful}
-use Rattle.smp_split.specs.Paths.{Entry}
-use Rattle.smp_log.specs.Lines.{lines_text, Lacks, AreLines}
-use Rattle.smp_log.specs.Heads.{IsHead}
-use Rattle.smp_log.specs.Logs.{steps_text, end_text}
-use Rattle.smp_log.specs.Reading.{Script, step_line}
-use Rattle.smp_split.specs.Sectioning.{Sectioning, IsSectioned}
+use Rattle.smp_split.specs.{Trees.{Tree, Lawful}, Paths.{Entry}, Sectioning.{Sectioning, IsSectioned}}
+use Rattle.smp_log.specs.{Lines.{lines_text, Lacks, AreLines}, Heads.{IsHead}, Logs.{steps_text, end_text}, Reading.{Script, step_line}}
 use Rattle.smp_log.specs.SectionLogs.{placed, tape_place, stratum_text, done_text, lone_text, section_text, sectioned_head, sections_text, IsSectionedGenuine, IsSectionedText}
-use Rattle.smp_log.proofs.StepsIn.{steps_before, steps_in}
+use Rattle.smp_log.proofs.{StepsIn.{steps_before, steps_in}, Texts.{cons-Lacks, Lacks-append, AreLines-append, lines_text-append}}
 use Rattle.smp_log.specs.SectionReading.{stratum_line, done_line, SectionPlace, closed, before, section_script}
-use Rattle.smp_log.proofs.Texts.{cons-Lacks, Lacks-append, AreLines-append, lines_text-append}
-use Rattle.smp_log.proofs.Numbers.{decimal_lacks}
-use Rattle.smp_log.proofs.StepLines.{end_line_lacks}
-use Rattle.smp_log.proofs.LineTexts.{steps_lines, end_text_line, step_lines_are}
+use Rattle.smp_log.proofs.{Numbers.{decimal_lacks}, StepLines.{end_line_lacks}, LineTexts.{steps_lines, end_text_line, step_lines_are}}
 use Rattle.smp_log.proofs.Described.{Describes, path_log, text_accepted}
 use Rattle.smp_log.proofs.SectionScripts.{section_lines, open_lines, open_accepted, accepted_opening, Good, good_before, keeps, each_ends, head_accepted, accepted_head}
 

@@ -1,11 +1,8 @@
 -- The texts of steps by their lines.
 use Rattle.std.proofs.Common.{◌≡◌, ℕ, List, [], ◌∷◌, ◌++◌, map, refl, sym, ap, ◌∙◌, append_assoc, codes}
 use Rattle.std.specs.Fmt.{decimal}
-use Rattle.smp_split.specs.Kinds.{kind_word}
-use Rattle.smp_split.specs.Paths.{Entry}
-use Rattle.smp_log.specs.Lines.{lines_text, AreLines}
-use Rattle.smp_log.specs.Logs.{step_text, steps_text, end_text}
-use Rattle.smp_log.specs.Reading.{step_line, end_line}
+use Rattle.smp_split.specs.{Kinds.{kind_word}, Paths.{Entry}}
+use Rattle.smp_log.specs.{Lines.{lines_text, AreLines}, Logs.{step_text, steps_text, end_text}, Reading.{step_line, end_line}}
 use Rattle.smp_log.proofs.StepLines.{step_line_lacks}
 
 pub step_text_line : (l : Entry) (rest : List ℕ) → step_text l ++ rest ≡ step_line l ++ 10 ∷ rest

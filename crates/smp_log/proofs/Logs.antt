@@ -1,17 +1,12 @@
 -- The script of logs accepts the lines of genuine logs, and no others.
 use Rattle.std.proofs.Common.{◌≡◌, ℕ, suc, ◌+◌, ◌<◌, Bool, true, false, cond, List, [], ◌∷◌, ◌++◌, length, map, Option, Some, None, option_map, refl, sym, ap, ◌∙◌, subst, arith, inl, inr}
-use Rattle.std.proofs.lemmas.Bool.{cases_Bool}
-use Rattle.smp_split.specs.Trees.{Tree, Lawful, weight_sum, picked}
-use Rattle.smp_split.specs.Paths.{Entry, Leads, entry_at}
-use Rattle.smp_split.specs.Laws.Steps.{picked_belongs}
+use Rattle.std.proofs.{lemmas.Bool.{cases_Bool}, lemmas.Slice.Eq.{bytes_eq-Decides}}
+use Rattle.smp_split.specs.{Trees.{Tree, Lawful, weight_sum, picked}, Paths.{Entry, Leads, entry_at}, Laws.Steps.{picked_belongs}}
 use Rattle.smp_split.proofs.Paths.{below}
 use Rattle.smp_log.specs.Reading.{step_line, Script, LogPlace, heading, stepping, closed, before, step_value, next_step, log_script}
 use Rattle.std.specs.Str.{bytes_eq}
-use Rattle.std.proofs.lemmas.Slice.Eq.{bytes_eq-Decides}
-use Rattle.smp_log.proofs.Options.{mapped, some_cond}
-use Rattle.smp_log.proofs.StepLines.{step_value-is, step_value-line}
+use Rattle.smp_log.proofs.{Options.{mapped, some_cond}, StepLines.{step_value-is, step_value-line}, Scripts.{Accepts, Ends}}
 use Rattle.smp_log.proofs.HeadLines.{AreHeads, HasHead, behind_head, has_head}
-use Rattle.smp_log.proofs.Scripts.{Accepts, Ends}
 
 -- the lines of a log behind its head, where so many steps stand before them
 abbrev pub lines_after : (ℕ → List ℕ) → ℕ → List Entry → List (List ℕ)

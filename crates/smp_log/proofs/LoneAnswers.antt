@@ -1,25 +1,15 @@
 -- What the function answers of a section.
 use Rattle.std.proofs.Common.{◌≡◌, ℕ, suc, ◌+◌, nat_lt, Bool, true, false, cond, List, [], ◌∷◌, ◌++◌, length, map, take, None, Result, Ok, Err, refl, sym, ap, ◌∙◌, arith, add-one, length-append, inl, inr}
-use Rattle.std.proofs.Math.Seq.{take-append-add}
+use Rattle.std.proofs.{Math.Seq.{take-append-add}, lemmas.Bool.{lt-ltb, le-ltb}, lemmas.Slice.Eq.{bytes_eq-Decides}}
 use Rattle.std.specs.Str.{bytes_eq}
-use Rattle.std.proofs.lemmas.Bool.{lt-ltb, le-ltb}
-use Rattle.std.proofs.lemmas.Slice.Eq.{bytes_eq-Decides}
-use Rattle.smp_split.specs.Trees.{Tree, Lawful}
-use Rattle.smp_split.specs.Paths.{Entry}
-use Rattle.smp_log.specs.Lines.{whole_lines}
-use Rattle.smp_log.specs.Fronts.{HasOtherLine, StopsAt}
-use Rattle.smp_log.specs.Heads.{IsHead}
-use Rattle.smp_log.specs.Reading.{heading, stepping, closed, step_line, follows}
-use Rattle.smp_log.specs.SectionLogs.{sectioned_head}
-use Rattle.smp_log.specs.SectionReading.{stratum_line, done_line}
+use Rattle.smp_split.specs.{Trees.{Tree, Lawful}, Paths.{Entry}}
+use Rattle.smp_log.specs.{Lines.{whole_lines}, Fronts.{HasOtherLine, StopsAt}, Heads.{IsHead}, SectionLogs.{sectioned_head}}
+use Rattle.smp_log.specs.{Reading.{heading, stepping, closed, step_line, follows}, SectionReading.{stratum_line, done_line}}
 use Rattle.smp_log.specs.Told.{path_along}
 use Rattle.smp_log.specs.LoneSections.{opens, NoneOpens, IsOpened, HasSection, SectionLine, SectionDiffers, LonePlace, start, lone_script, is_over, shared, from_opening, leaf_or, lone_leaf, section_reading, section_told}
-use Rattle.smp_log.proofs.Texts.{whole_lines-text, whole_lines-cons, whole_lines-none, cut_parts}
-use Rattle.smp_log.proofs.Described.{whole_text, front_followed}
-use Rattle.smp_log.proofs.Telling.{steps_along}
-use Rattle.smp_log.proofs.SectionTelling.{passed_over, stratum_is_no_step}
+use Rattle.smp_log.proofs.{Texts.{whole_lines-text, whole_lines-cons, whole_lines-none, cut_parts}, Described.{whole_text, front_followed}}
+use Rattle.smp_log.proofs.{Telling.{steps_along}, SectionTelling.{passed_over, stratum_is_no_step}, LoneScripts.{over_at, described}}
 use Rattle.smp_log.proofs.KeptSections.{sectioned_head_lines, sectioned_head_lines_are, sectioned_head-text, lone_lines, lone_lines_are}
-use Rattle.smp_log.proofs.LoneScripts.{over_at, described}
 
 -- ---- the lines of a front
 

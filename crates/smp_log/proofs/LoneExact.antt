@@ -1,23 +1,16 @@
 -- Of each log the function gives the one answer that is right for a section.
 use Rattle.std.proofs.Common.{◌≡◌, ℕ, suc, ◌+◌, ◌≤◌, ◌==◌, Bool, true, false, cond, List, [], ◌∷◌, ◌++◌, length, Option, Some, None, Result, Ok, Err, refl, sym, ap, ◌∙◌, subst, arith, append_assoc, inl, inr, ◌⊎◌}
 use Rattle.std.specs.Str.{bytes_eq}
-use Rattle.std.proofs.lemmas.Bool.{eqb-true}
-use Rattle.std.proofs.lemmas.Slice.Eq.{bytes_eq-Decides}
+use Rattle.std.proofs.{lemmas.Bool.{eqb-true}, lemmas.Slice.Eq.{bytes_eq-Decides}}
 use Rattle.smp_frac.specs.Cuts.{cut_at}
 use Rattle.smp_split.specs.Trees.{Tree, Lawful}
-use Rattle.smp_log.specs.Fronts.{HasOtherLine}
-use Rattle.smp_log.specs.Heads.{IsHead}
-use Rattle.smp_log.specs.Lines.{longer, whole_lines, lines_text, Lacks, AreLines}
-use Rattle.smp_log.specs.Reading.{Script, heading, stepping, closed, follows}
-use Rattle.smp_log.specs.SectionLogs.{sectioned_head}
+use Rattle.smp_log.specs.{Fronts.{HasOtherLine}, Heads.{IsHead}, Lines.{longer, whole_lines, lines_text, Lacks, AreLines}}
+use Rattle.smp_log.specs.{Reading.{Script, heading, stepping, closed, follows}, SectionLogs.{sectioned_head}}
 use Rattle.smp_log.specs.LoneSections.{IsGenuineSection, opens, NoneOpens, IsOpened, HasSection, IsSectionAnswer, IsExactSection, SectionLine, SectionDiffers, LonePlace, start, is_over, lone_script, section_reading}
-use Rattle.smp_log.proofs.Described.{whole_text, kept, genuine_front}
+use Rattle.smp_log.proofs.{Described.{whole_text, kept, genuine_front}, LoneReplays.{stops, no_opening, opened}}
 use Rattle.smp_log.proofs.KeptSections.{sectioned_head_lines, sectioned_head_lines_are, sectioned_head-text}
 use Rattle.smp_log.proofs.LoneAnswers.{Differing, differing, has_reading, stopped_reading, stops_reading, unopened_reading}
-use Rattle.smp_log.proofs.LoneReplays.{stops, no_opening, opened}
-use Rattle.smp_log.proofs.LoneScripts.{over_at, described}
-use Rattle.smp_log.proofs.Reached.{LeadsAlong, Reached}
-use Rattle.smp_log.proofs.Scripts.{follows-some, follows-none}
+use Rattle.smp_log.proofs.{LoneScripts.{over_at, described}, Reached.{LeadsAlong, Reached}, Scripts.{follows-some, follows-none}}
 use Rattle.smp_log.proofs.Texts.{cons-Lacks, cut_parts, lines_text-append}
 
 -- ---- a text by its whole lines, and what is behind them

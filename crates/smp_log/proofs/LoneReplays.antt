@@ -1,27 +1,18 @@
 -- A replay of one section that is under way, and its ends.
 use Rattle.std.proofs.Common.{◌≡◌, ℕ, ◌+◌, ◌<◌, ◌≤◌, Bool, true, false, cond, List, [], ◌∷◌, ◌++◌, length, take, Option, Err, Some, None, option_map, refl, sym, ap, ◌∙◌, subst, arith, append_assoc, length-append, inl, inr, ◌⊎◌}
-use Rattle.std.specs.Prelude.{option_and_then}
-use Rattle.std.specs.Str.{bytes_eq}
+use Rattle.std.specs.{Prelude.{option_and_then}, Str.{bytes_eq}}
 use Rattle.std.proofs.lemmas.Slice.Eq.{bytes_eq-Decides}
 use Rattle.smp_frac.specs.Cuts.{cut_at}
-use Rattle.smp_split.specs.Trees.{Tree, Lawful, weight_sum, picked}
-use Rattle.smp_split.specs.Laws.Steps.{picked_belongs}
-use Rattle.smp_log.specs.Fronts.{StopsAt}
-use Rattle.smp_log.specs.Lines.{whole_lines, lines_text}
-use Rattle.smp_log.specs.Heads.{IsHead}
-use Rattle.smp_log.specs.Reading.{Script, LogPlace, stepping, closed, step_value, after_line, step_first}
-use Rattle.smp_log.specs.SectionLogs.{sectioned_head}
+use Rattle.smp_split.specs.{Trees.{Tree, Lawful, weight_sum, picked}, Laws.Steps.{picked_belongs}}
+use Rattle.smp_log.specs.{Fronts.{StopsAt}, Lines.{whole_lines, lines_text}, Heads.{IsHead}, SectionLogs.{sectioned_head}}
+use Rattle.smp_log.specs.{Reading.{Script, LogPlace, stepping, closed, step_value, after_line, step_first}, Told.{path_along}}
 use Rattle.smp_log.specs.SectionReading.{stratum_line, done_line}
-use Rattle.smp_log.specs.Told.{path_along}
 use Rattle.smp_log.specs.LoneSections.{IsGenuineSection, opens, NoneOpens, IsOpened, HasSection, SectionLine, place_of, opening_first, LonePlace, start, lone_script, is_over, section_reading, section_in_first_lines}
-use Rattle.smp_log.proofs.Options.{goes_on, mapped}
+use Rattle.smp_log.proofs.{Options.{goes_on, mapped}, OpeningLines.{NoneOpens-append, lines_long}, Reached.{Reached, reached_more, stuck}}
 use Rattle.smp_log.proofs.Texts.{AreLines-append, lines_text-append, whole_lines-text, whole_lines-cons, cut_parts}
-use Rattle.smp_log.proofs.OpeningLines.{NoneOpens-append, lines_long}
 use Rattle.smp_log.proofs.KeptSections.{sectioned_head_lines, sectioned_head_lines_are, sectioned_head-text}
-use Rattle.smp_log.proofs.LoneScripts.{over_at, described, place_of-is}
+use Rattle.smp_log.proofs.{LoneScripts.{over_at, described, place_of-is}, Described.{Describes, differs, genuine_front}}
 use Rattle.smp_log.proofs.LoneAnswers.{Differing, differing, stops_reading, unopened_reading, stopped_reading, section_part}
-use Rattle.smp_log.proofs.Reached.{Reached, reached_more, stuck}
-use Rattle.smp_log.proofs.Described.{Describes, differs, genuine_front}
 use Rattle.smp_log.proofs.FirstLines.{first_is, first_stuck, step_stuck, first_step, first_within, shorter_by}
 use Rattle.smp_log.proofs.SectionTelling.{passed_over, stratum_is_no_step}
 

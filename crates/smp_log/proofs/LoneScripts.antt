@@ -1,20 +1,13 @@
 -- The script of one section describes the genuine ones.
 use Rattle.std.proofs.Common.{◌≡◌, ℕ, ◌+◌, ◌^◌, ◌<◌, nat_lt, Bool, true, false, cond, List, [], ◌∷◌, ◌++◌, length, map, Option, Some, None, option_map, refl, sym, ap, ◌∙◌, subst, arith, append_assoc, codes}
-use Rattle.std.specs.Prelude.{option_and_then}
-use Rattle.std.specs.Fmt.{decimal}
+use Rattle.std.specs.{Prelude.{option_and_then}, Fmt.{decimal}}
 use Rattle.std.proofs.lemmas.Bool.{ltb-true, lt-ltb}
-use Rattle.smp_split.specs.Trees.{Tree, Lawful}
-use Rattle.smp_split.specs.Paths.{Entry}
-use Rattle.smp_log.specs.Lines.{whole_lines, lines_text, AreLines}
+use Rattle.smp_split.specs.{Trees.{Tree, Lawful}, Paths.{Entry}}
+use Rattle.smp_log.specs.{Lines.{whole_lines, lines_text, AreLines}, SectionLogs.{lone_text}, SectionReading.{stratum_line, done_line}}
 use Rattle.smp_log.specs.Reading.{behind, written, below, step_line, Script, LogPlace, stepping, closed, log_script}
-use Rattle.smp_log.specs.SectionLogs.{lone_text}
-use Rattle.smp_log.specs.SectionReading.{stratum_line, done_line}
 use Rattle.smp_log.specs.LoneSections.{IsGenuineSection, opening_words, place_of, LonePlace, start, at, lone_script}
-use Rattle.smp_log.proofs.Texts.{behind-append, behind-is}
-use Rattle.smp_log.proofs.Numbers.{written-decimal, written-is}
-use Rattle.smp_log.proofs.Options.{goes_on, mapped}
-use Rattle.smp_log.proofs.Scripts.{Accepts, Ends}
-use Rattle.smp_log.proofs.Described.{Describes, IsAccepted, IsLog, whole_text}
+use Rattle.smp_log.proofs.{Texts.{behind-append, behind-is}, Numbers.{written-decimal, written-is}, Options.{goes_on, mapped}}
+use Rattle.smp_log.proofs.{Scripts.{Accepts, Ends}, Described.{Describes, IsAccepted, IsLog, whole_text}}
 use Rattle.smp_log.proofs.Logs.{lines_after, path_accepted, accepted_path, Good, keeps, each_ends}
 use Rattle.smp_log.proofs.KeptSections.{lone_lines, lone_lines_are}
 

@@ -1,28 +1,15 @@
 -- What a replay of one section tells.
 use Rattle.std.proofs.Common.{◌≡◌, ℕ, ◌+◌, Bool, true, false, List, [], ◌∷◌, ◌++◌, length, take, Option, Some, Err, refl, sym, ap, ◌∙◌, subst}
-use Rattle.std.proofs.Math.Seq.{take-length}
-use Rattle.std.proofs.lemmas.List.{take_at}
-use Rattle.smp_split.specs.Trees.{Tree, Lawful, weight_sum, picked}
-use Rattle.smp_split.specs.Paths.{Entry, entry_at}
-use Rattle.smp_split.specs.Runs.{and_then}
-use Rattle.smp_log.specs.Fronts.{StopsAt}
-use Rattle.smp_log.specs.Lines.{whole_lines}
-use Rattle.smp_log.specs.Heads.{IsHead}
-use Rattle.smp_log.specs.Reading.{stepping, step_first}
-use Rattle.smp_log.specs.SectionLogs.{sectioned_head}
-use Rattle.smp_log.specs.Told.{path_along, IsToldAlong, IsToldPart}
-use Rattle.smp_log.specs.Replayed.{Replays, section_form}
+use Rattle.std.proofs.{Math.Seq.{take-length}, lemmas.List.{take_at}}
+use Rattle.smp_split.specs.{Trees.{Tree, Lawful, weight_sum, picked}, Paths.{Entry, entry_at}, Runs.{and_then}}
+use Rattle.smp_log.specs.{Fronts.{StopsAt}, Lines.{whole_lines}, Heads.{IsHead}, Reading.{stepping, step_first}}
+use Rattle.smp_log.specs.{SectionLogs.{sectioned_head}, Told.{path_along, IsToldAlong, IsToldPart}, Replayed.{Replays, section_form}}
 use Rattle.smp_log.specs.declared.fault.ReplayFault.TheVariants.{Differs}
 use Rattle.smp_log.specs.LoneSections.{NoneOpens, IsOpened, LonePlace, start, lone_script, from_opening, section_in_first_lines, section_told}
-use Rattle.smp_log.proofs.Texts.{whole_lines-text}
-use Rattle.smp_log.proofs.Described.{whole_text}
-use Rattle.smp_log.proofs.FirstLines.{first_step}
-use Rattle.smp_log.proofs.KeptSections.{sectioned_head_lines, sectioned_head_lines_are, sectioned_head-text}
-use Rattle.smp_log.proofs.LoneAnswers.{Differing, from_opened, opening_nowhere, section_part}
-use Rattle.smp_log.proofs.LoneReplays.{ReadsSection, head_opens_none}
-use Rattle.smp_log.proofs.Reached.{next_lines, reached_lines}
+use Rattle.smp_log.proofs.{Texts.{whole_lines-text}, Described.{whole_text}, FirstLines.{first_step}, Reached.{next_lines, reached_lines}}
+use Rattle.smp_log.proofs.{KeptSections.{sectioned_head_lines, sectioned_head_lines_are, sectioned_head-text}, Replied.{refused}}
+use Rattle.smp_log.proofs.{LoneAnswers.{Differing, from_opened, opening_nowhere, section_part}, LoneReplays.{ReadsSection, head_opens_none}}
 use Rattle.smp_log.proofs.Telling.{none_told, none_begins, step_told, begins, all_told}
-use Rattle.smp_log.proofs.Replied.{refused}
 
 -- ---- the lines before the opening line
 

@@ -1,18 +1,11 @@
 -- Lines of a word and two numbers.
 use Rattle.std.proofs.Common.{◌≡◌, ℕ, ◌^◌, ◌<◌, Bool, true, false, List, ◌∷◌, ◌++◌, Option, Some, None, sym, ap, ◌∙◌, subst, arith, inl, eqb}
-use Rattle.std.proofs.lemmas.Bool.{false_from_ne_true, eqb-true, eq-eqb}
-use Rattle.std.proofs.lemmas.Bool.Decides.{same_from_decides}
-use Rattle.std.proofs.lemmas.List.{append_cancel_left}
-use Rattle.std.proofs.lemmas.Option.{some_pair_parts}
-use Rattle.std.proofs.lemmas.Slice.Eq.{bytes_eq-Decides}
-use Rattle.std.specs.Bool.{Decides}
-use Rattle.std.specs.Option.{option_eq}
-use Rattle.std.specs.Str.{bytes_eq}
-use Rattle.std.specs.Fmt.{decimal}
+use Rattle.std.proofs.{lemmas.Bool.{false_from_ne_true, eqb-true, eq-eqb}, lemmas.Bool.Decides.{same_from_decides}}
+use Rattle.std.proofs.{lemmas.List.{append_cancel_left}, lemmas.Option.{some_pair_parts}, lemmas.Slice.Eq.{bytes_eq-Decides}}
+use Rattle.std.specs.{Bool.{Decides}, Option.{option_eq}, Str.{bytes_eq}, Fmt.{decimal}}
 use Rattle.smp_frac.specs.Cuts.{cut_at}
 use Rattle.smp_log.specs.Reading.{behind, written}
-use Rattle.smp_log.proofs.Texts.{cut_behind, cut_parts, behind-append, behind-is}
-use Rattle.smp_log.proofs.Numbers.{decimal_lacks, written-decimal, written-is}
+use Rattle.smp_log.proofs.{Texts.{cut_behind, cut_parts, behind-append, behind-is}, Numbers.{decimal_lacks, written-decimal, written-is}}
 
 pub same_option : (o : Option ℕ) (n : ℕ) → Decides (option_eq eqb o (Some n)) (o ≡ Some n)
 same_option None n = (λ e. absurd (let no : ◌≡◌ {A = Bool} false true = e in cc), λ e. absurd (let no : ◌≡◌ {A = Option ℕ} None (Some n) = e in cc))

@@ -1,19 +1,14 @@
 -- Decimal numbers without leading zeros.
 use Rattle.std.proofs.Common.{◌≡◌, ℕ, zero, suc, ◌+◌, ◌*◌, ◌/◌, ◌%◌, ◌^◌, ◌<◌, ◌≤◌, ◌==◌, ◌&&◌, Bool, true, false, cond, nat_lt, List, [], ◌∷◌, ◌++◌, length, get_or, Option, Some, None, refl, sym, ap, ◌∙◌, arith, append_assoc, length-append, inl, inr, ◌⊎◌, rules}
 use Rattle.std.proofs.lemmas.Bool.{cases_Bool, and_parts, and_from, and_left, and_right, eq-eqb, ne_eqb, ltb-true, ltb-false, lt-ltb, le-ltb, cases_eq}
-use Rattle.std.proofs.lemmas.List.{append-nil}
+use Rattle.std.proofs.{lemmas.List.{append-nil}, lemmas.Str.Parse.{IsNumeralModel, numerals_by_value, digit_from_value}}
 use Rattle.std.proofs.lemmas.Fmt.{decimal_digit, decimal_step_wide, decimal_by_steps_wide, decimal_is_IsNumeral_wide}
-use Rattle.std.proofs.lemmas.Str.Parse.{IsNumeralModel, numerals_by_value, digit_from_value}
 use Rattle.std.proofs.lemmas.Str.{digit_value_digit}
-use Rattle.std.specs.Fmt.{decimal, digits, digits_onto, digit_glyph}
-use Rattle.std.specs.List.{list_all}
-use Rattle.std.specs.Char.{is_ascii_digit, digit_value}
+use Rattle.std.specs.{Fmt.{decimal, digits, digits_onto, digit_glyph}, List.{list_all}, Char.{is_ascii_digit, digit_value}}
 use Rattle.std.specs.Str.Parse.{AllDigits, digits_value, digits_value_after}
 use Rattle.smp_frac.specs.Decimals.{is_decimal, number_below}
-use Rattle.smp_log.specs.Reading.{written}
-use Rattle.smp_log.specs.Lines.{Lacks}
-use Rattle.smp_log.proofs.Options.{some_cond}
-use Rattle.smp_log.proofs.Texts.{cons-Lacks}
+use Rattle.smp_log.specs.{Reading.{written}, Lines.{Lacks}}
+use Rattle.smp_log.proofs.{Options.{some_cond}, Texts.{cons-Lacks}}
 
 -- ---- a decimal number lacks each byte that is no digit
 

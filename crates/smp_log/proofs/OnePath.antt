@@ -1,17 +1,10 @@
 -- A genuine log is the log of one path, which leads to one leaf.
 use Rattle.std.proofs.Common.{◌≡◌, ℕ, ◌+◌, true, false, List, [], ◌∷◌, ◌++◌, Option, Some, refl, sym, ap, ◌∙◌, subst}
 use Rattle.std.proofs.lemmas.List.{append_cancel_left}
-use Rattle.smp_split.specs.Trees.{Tree, Lawful, weight_sum, picked}
-use Rattle.smp_split.specs.Paths.{Entry, IsStep, Leads, entry_at}
+use Rattle.smp_split.specs.{Trees.{Tree, Lawful, weight_sum, picked}, Paths.{Entry, IsStep, Leads, entry_at}}
 use Rattle.smp_split.specs.Laws.Steps.{picked_belongs, value_within}
-use Rattle.smp_log.specs.Lines.{whole_lines}
-use Rattle.smp_log.specs.Heads.{IsHead}
-use Rattle.smp_log.specs.Genuine.{IsGenuine}
-use Rattle.smp_log.specs.Reading.{step_line, step_value, end_line}
-use Rattle.smp_log.proofs.StepLines.{step_value-line}
-use Rattle.smp_log.proofs.Heads.{head_lines}
-use Rattle.smp_log.proofs.Logs.{lines_after, one_longer}
-use Rattle.smp_log.proofs.StepCounts.{lines_are}
+use Rattle.smp_log.specs.{Lines.{whole_lines}, Heads.{IsHead}, Genuine.{IsGenuine}, Reading.{step_line, step_value, end_line}}
+use Rattle.smp_log.proofs.{StepLines.{step_value-line}, Heads.{head_lines}, Logs.{lines_after, one_longer}, StepCounts.{lines_are}}
 
 module _ {State : Type 0} (tree : Tree State) (belongs : State → Type 0) (lawful : Lawful tree belongs) where
   -- the entry of a step is the state's, and its line is read with its value

@@ -1,16 +1,12 @@
 -- Which lines open a section.
 use Rattle.std.proofs.Common.{◌≡◌, ℕ, ◌+◌, ◌^◌, ◌<◌, ◌≤◌, Bool, true, false, List, [], ◌∷◌, ◌++◌, length, Option, Some, None, refl, sym, ap, ◌∙◌, subst, arith, append_assoc, length-append, inl, codes, eqb}
-use Rattle.std.specs.Option.{option_eq}
-use Rattle.std.specs.Fmt.{decimal}
-use Rattle.std.proofs.lemmas.List.{append_cancel_left, append-nil}
-use Rattle.std.proofs.lemmas.Option.{some_pair_parts}
+use Rattle.std.specs.{Option.{option_eq}, Fmt.{decimal}}
+use Rattle.std.proofs.{lemmas.List.{append_cancel_left, append-nil}, lemmas.Option.{some_pair_parts}}
 use Rattle.smp_frac.specs.Cuts.{cut_at}
-use Rattle.smp_log.specs.Lines.{whole_lines, lines_text, AreLines}
-use Rattle.smp_log.specs.Reading.{behind, written}
+use Rattle.smp_log.specs.{Lines.{whole_lines, lines_text, AreLines}, Reading.{behind, written}}
 use Rattle.smp_log.specs.LoneSections.{opening_words, opens, NoneOpens, IsOpened}
 use Rattle.smp_log.proofs.Texts.{cut_behind, cut_parts, behind-append, behind-is, AreLines-append, lines_text-append, whole_lines-text, whole_lines-none}
-use Rattle.smp_log.proofs.Numbers.{decimal_lacks, written-decimal, written-is}
-use Rattle.smp_log.proofs.NumberedLines.{same_option}
+use Rattle.smp_log.proofs.{Numbers.{decimal_lacks, written-decimal, written-is}, NumberedLines.{same_option}}
 
 abbrev front : List ℕ
 front = codes "stratum "

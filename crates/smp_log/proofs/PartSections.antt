@@ -1,32 +1,17 @@
 -- A section of a genuine log of version 2 is replayed by the design that is this section.
 use Rattle.std.proofs.Common.{◌≡◌, ◌≢◌, ℕ, zero, suc, ◌+◌, ◌-◌, ◌^◌, ◌<◌, ◌≤◌, ◌==◌, Bool, true, false, List, [], ◌∷◌, ◌++◌, length, map, Some, None, refl, sym, ap, ◌∙◌, subst, arith, append_assoc, codes, eqb, inl, inr}
-use Rattle.std.specs.Prelude.{is_some}
-use Rattle.std.specs.List.{flat_map, range_with_len}
-use Rattle.std.specs.Option.{option_eq}
-use Rattle.std.specs.Fmt.{decimal}
+use Rattle.std.specs.{Prelude.{is_some}, List.{flat_map, range_with_len}, Option.{option_eq}, Fmt.{decimal}}
 use Rattle.std.proofs.lemmas.Bool.{cases_eq, eq-eqb, ne_eqb}
-use Rattle.smp_split.specs.declared.kind.Kind.{Kind}
-use Rattle.smp_split.specs.declared.kind.Kind.TheVariants.{Order}
-use Rattle.smp_split.specs.Kinds.{kind_word}
-use Rattle.smp_split.specs.Trees.{Tree, Lawful, weight_sum, picked}
-use Rattle.smp_split.specs.Paths.{Entry, IsStep, Leads}
-use Rattle.smp_split.specs.Sectioning.{Sectioning, IsSectioned, IsPartOf}
-use Rattle.smp_split.specs.Laws.Steps.{picked_belongs, leads_belong}
-use Rattle.smp_log.specs.Lines.{lines_text, AreLines}
-use Rattle.smp_log.specs.Heads.{IsHead}
-use Rattle.smp_log.specs.Logs.{end_text}
-use Rattle.smp_log.specs.Genuine.{IsFullPath}
-use Rattle.smp_log.specs.Reading.{behind, written, step_line}
+use Rattle.smp_split.specs.{declared.kind.Kind.{Kind}, declared.kind.Kind.TheVariants.{Order}, Kinds.{kind_word}}
+use Rattle.smp_split.specs.{Trees.{Tree, Lawful, weight_sum, picked}, Paths.{Entry, IsStep, Leads}}
+use Rattle.smp_split.specs.{Sectioning.{Sectioning, IsSectioned, IsPartOf}, Laws.Steps.{picked_belongs, leads_belong}}
+use Rattle.smp_log.specs.{Lines.{lines_text, AreLines}, Heads.{IsHead}, Logs.{end_text}, Genuine.{IsFullPath}}
+use Rattle.smp_log.specs.{Reading.{behind, written, step_line}, SectionReading.{stratum_line, done_line}}
 use Rattle.smp_log.specs.SectionLogs.{placed, tape_place, section_text, sections_text, IsSectionedGenuine}
-use Rattle.smp_log.proofs.StepsIn.{steps_before, steps_in}
-use Rattle.smp_log.specs.SectionReading.{stratum_line, done_line}
+use Rattle.smp_log.proofs.{StepsIn.{steps_before, steps_in}, Texts.{cut_behind, behind-append, AreLines-append, lines_text-append}}
 use Rattle.smp_log.specs.LoneSections.{opening_words, opens, NoneOpens, HasSection, IsReplayedAlone, IsOpened}
-use Rattle.smp_log.proofs.Texts.{cut_behind, behind-append, AreLines-append, lines_text-append}
-use Rattle.smp_log.proofs.Numbers.{decimal_lacks, written-decimal}
-use Rattle.smp_log.proofs.LineTexts.{step_lines_are}
-use Rattle.smp_log.proofs.SectionScripts.{section_lines}
-use Rattle.smp_log.proofs.KeptSections.{numbered_lacks, section_text_lines}
-use Rattle.smp_log.proofs.OpeningLines.{other_word, other_number, NoneOpens-append}
+use Rattle.smp_log.proofs.{Numbers.{decimal_lacks, written-decimal}, LineTexts.{step_lines_are}, SectionScripts.{section_lines}}
+use Rattle.smp_log.proofs.{KeptSections.{numbered_lacks, section_text_lines}, OpeningLines.{other_word, other_number, NoneOpens-append}}
 use Rattle.smp_log.proofs.LoneReplays as LoneReplays
 use Rattle.smp_log.proofs.SectionCounts.{place_within}
 

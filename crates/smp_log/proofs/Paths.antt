@@ -1,9 +1,7 @@
 -- The paths to leaves.
 use Rattle.std.proofs.Common.{◌≡◌, List, [], ◌∷◌, sym, ◌∙◌, subst}
 use Rattle.smp_tape.specs.Sources.{Source}
-use Rattle.smp_split.specs.Trees.{Tree, Lawful, picked}
-use Rattle.smp_split.specs.Paths.{Entry, Leads}
-use Rattle.smp_split.specs.Runs.{Outcome, IsLeaf, IsOutcome, run}
+use Rattle.smp_split.specs.{Trees.{Tree, Lawful, picked}, Paths.{Entry, Leads}, Runs.{Outcome, IsLeaf, IsOutcome, run}}
 use Rattle.smp_split.proofs.Runs.{run_is}
 use Rattle.smp_log.specs.Genuine.{IsFullPath}
 

@@ -1,6 +1,5 @@
 -- Pieces put one behind the other.
-use Rattle.std.proofs.Common.{◌≡◌, ℕ, ◌+◌, List, [], ◌++◌, length, take, sym, ◌∙◌, ap, append_assoc}
-use Rattle.std.proofs.lemmas.List.{append-nil}
+use Rattle.std.proofs.{Common.{◌≡◌, ℕ, ◌+◌, List, [], ◌++◌, length, take, sym, ◌∙◌, ap, append_assoc}, lemmas.List.{append-nil}}
 
 -- a front and one more piece are a longer front
 pub next : (at size : ℕ) (front piece old now : List ℕ) → take at old ≡ front → length piece ≡ size → take (at + length piece) now ≡ take at old ++ piece → take (at + size) now ≡ front ++ piece

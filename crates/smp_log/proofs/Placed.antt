@@ -1,8 +1,6 @@
 -- Steps with their sections: those of a path, kept step by step.
 use Rattle.std.proofs.Common.{◌≡◌, ℕ, ◌<◌, ◌≤◌, List, [], ◌∷◌, ◌++◌, refl, sym, ap, ◌∙◌}
-use Rattle.smp_split.specs.Trees.{Tree, Lawful, weight_sum, picked}
-use Rattle.smp_split.specs.Paths.{Entry, IsStep, Leads}
-use Rattle.smp_split.specs.Sectioning.{Sectioning, IsSectioned}
+use Rattle.smp_split.specs.{Trees.{Tree, Lawful, weight_sum, picked}, Paths.{Entry, IsStep, Leads}, Sectioning.{Sectioning, IsSectioned}}
 use Rattle.smp_split.specs.Laws.Steps.{Leads-push, picked_belongs, value_within}
 use Rattle.smp_log.specs.SectionLogs.{ArePlaced, RiseFrom, placed, steps_of}
 use Rattle.smp_log.proofs.SectionScripts.{later_section}

@@ -2,8 +2,7 @@
 use Rattle.std.proofs.Common.{◌≡◌, ℕ, suc, ◌+◌, true, List, [], ◌∷◌, ◌++◌, length, take, Some, None, refl, sym, ap, ◌∙◌, subst, arith, append_assoc, length-append, inl, inr, ◌⊎◌}
 use Rattle.std.proofs.lemmas.List.{take_at}
 use Rattle.smp_frac.specs.Cuts.{cut_at}
-use Rattle.smp_log.specs.Lines.{whole_lines, lines_text, AreLines}
-use Rattle.smp_log.specs.Reading.{Script, follows}
+use Rattle.smp_log.specs.{Lines.{whole_lines, lines_text, AreLines}, Reading.{Script, follows}}
 use Rattle.smp_log.proofs.Texts.{AreLines-append, whole_lines-text, whole_lines-none, whole_lines-cons, lines_text-append, cut_parts}
 use Rattle.smp_log.proofs.Scripts.{Accepts, follows-some, follows-none}
 

@@ -3,17 +3,12 @@ use Rattle.std.proofs.Common.{◌≡◌, ℕ, ◌+◌, ◌<◌, ◌≤◌, Bool,
 use Rattle.std.specs.Str.{bytes_eq}
 use Rattle.std.proofs.lemmas.Slice.Eq.{bytes_eq-Decides}
 use Rattle.smp_frac.specs.Cuts.{cut_at}
-use Rattle.smp_split.specs.Trees.{Tree, Lawful, weight_sum, picked}
-use Rattle.smp_split.specs.Laws.Steps.{picked_belongs}
-use Rattle.smp_log.specs.Lines.{whole_lines, lines_text}
-use Rattle.smp_log.specs.Fronts.{IsCompleteLines, StopsAt}
-use Rattle.smp_log.specs.Heads.{IsHead}
+use Rattle.smp_split.specs.{Trees.{Tree, Lawful, weight_sum, picked}, Laws.Steps.{picked_belongs}}
+use Rattle.smp_log.specs.{Lines.{whole_lines, lines_text}, Fronts.{IsCompleteLines, StopsAt}, Heads.{IsHead}}
 use Rattle.smp_log.specs.Genuine.{IsGenuine, DiffersAt}
 use Rattle.smp_log.specs.Reading.{heading, stepping, closed, before, after_line, step_first, step_value, next_step, end_line, log_script}
 use Rattle.smp_log.proofs.FirstLines.{FirstStep, first_is, first_step, first_stuck, first_within, shorter_by, step_stuck}
-use Rattle.smp_log.proofs.Heads.{head_lines, head_lines_are}
-use Rattle.smp_log.proofs.Kept.{described}
-use Rattle.smp_log.proofs.Reached.{LeadsAlong, Reached, reached_more}
+use Rattle.smp_log.proofs.{Heads.{head_lines, head_lines_are}, Kept.{described}, Reached.{LeadsAlong, Reached, reached_more}}
 use Rattle.smp_log.proofs.Described.{Describes, whole_text, differs, differs_behind, genuine}
 
 -- the lines so far are those of the head and of the steps that lead to the state

@@ -1,20 +1,12 @@
 -- The three ways in which a replay answers.
 use Rattle.std.proofs.Common.{◌≡◌, ℕ, ◌+◌, ◌-◌, ◌≤◌, Bool, true, List, Option, Result, Ok, Err, OnOk, length, refl, sym, subst, arith}
-use Rattle.smp_split.specs.Trees.{Tree}
-use Rattle.smp_split.specs.Paths.{Entry}
-use Rattle.smp_split.specs.Runs.{and_then}
-use Rattle.smp_log.specs.Answers.{AnswersAs, as_told}
-use Rattle.smp_log.specs.Fronts.{Names, StopsAt}
-use Rattle.smp_log.specs.Lines.{whole_lines}
-use Rattle.smp_log.specs.Reading.{Script}
-use Rattle.smp_log.specs.Replayed.{Form, Replays, ReplaysUntold, path_form}
-use Rattle.smp_log.specs.Told.{path_told, path_in_first_lines, IsToldAlong, IsToldPart}
-use Rattle.smp_log.specs.declared.fault.LogFault.{LogFault}
+use Rattle.smp_split.specs.{Trees.{Tree}, Paths.{Entry}, Runs.{and_then}}
+use Rattle.smp_log.specs.{Answers.{AnswersAs, as_told}, Fronts.{Names, StopsAt}, Lines.{whole_lines}, Reading.{Script}}
+use Rattle.smp_log.specs.{Replayed.{Form, Replays, ReplaysUntold, path_form}, declared.fault.LogFault.{LogFault}}
+use Rattle.smp_log.specs.{Told.{path_told, path_in_first_lines, IsToldAlong, IsToldPart}, declared.fault.ReplayFault.{ReplayFault}}
 use Rattle.smp_log.specs.declared.fault.LogFault.TheVariants as untold
-use Rattle.smp_log.specs.declared.fault.ReplayFault.{ReplayFault}
 use Rattle.smp_log.specs.declared.fault.ReplayFault.TheVariants.{Differs, NoMemory}
-use Rattle.smp_log.proofs.Reached.{Reached}
-use Rattle.smp_log.proofs.Telling.{few_told, none_begins, stops_early, told_part}
+use Rattle.smp_log.proofs.{Reached.{Reached}, Telling.{few_told, none_begins, stops_early, told_part}}
 
 -- answers that name a line name the same one
 abbrev pub Answer : Type 0

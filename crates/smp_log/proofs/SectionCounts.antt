@@ -1,19 +1,11 @@
 -- How many lines a log of version 2 has.
 use Rattle.std.proofs.Common.{◌≡◌, ℕ, zero, suc, ◌+◌, ◌*◌, ◌<◌, ◌≤◌, ◌==◌, nat_lt, Bool, true, false, cond, List, [], ◌∷◌, ◌++◌, length, map, refl, sym, ap, ◌∙◌, arith, length-append, inl, inr}
-use Rattle.std.proofs.lemmas.List.{length-map}
-use Rattle.std.proofs.lemmas.Bool.{cases_Bool, cases_eq, eq-eqb, ne_eqb}
-use Rattle.smp_split.specs.Trees.{Tree, Lawful, weight_sum, picked}
-use Rattle.smp_split.specs.Paths.{Entry, Leads}
-use Rattle.smp_split.specs.Sectioning.{Sectioning, IsSectioned}
+use Rattle.std.proofs.{lemmas.List.{length-map}, lemmas.Bool.{cases_Bool, cases_eq, eq-eqb, ne_eqb}}
+use Rattle.smp_split.specs.{Trees.{Tree, Lawful, weight_sum, picked}, Paths.{Entry, Leads}, Sectioning.{Sectioning, IsSectioned}}
 use Rattle.smp_split.specs.Laws.Steps.{picked_belongs}
-use Rattle.smp_log.specs.Lines.{whole_lines, lines_text}
-use Rattle.smp_log.specs.Heads.{IsHead}
-use Rattle.smp_log.specs.Genuine.{IsFullPath}
-use Rattle.smp_log.specs.Reading.{step_line}
+use Rattle.smp_log.specs.{Lines.{whole_lines, lines_text}, Heads.{IsHead}, Genuine.{IsFullPath}, Reading.{step_line}}
 use Rattle.smp_log.specs.SectionLogs.{placed, tape_place, sections_text}
-use Rattle.smp_log.proofs.StepsIn.{steps_before, steps_in}
-use Rattle.smp_log.proofs.Described.{whole_text}
-use Rattle.smp_log.proofs.OpeningLines.{lines_long}
+use Rattle.smp_log.proofs.{StepsIn.{steps_before, steps_in}, Described.{whole_text}, OpeningLines.{lines_long}}
 use Rattle.smp_log.proofs.SectionScripts.{section_lines, open_lines, tape_place-step}
 use Rattle.smp_log.proofs.KeptSections.{sectioned_head_lines, log_lines, log_lines_are}
 

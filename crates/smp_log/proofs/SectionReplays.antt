@@ -1,21 +1,13 @@
 -- A replay of a log of version 2 that is under way, and its ends.
 use Rattle.std.proofs.Common.{◌≡◌, ◌≢◌, ℕ, ◌+◌, ◌<◌, ◌≤◌, ◌==◌, nat_lt, Bool, true, false, cond, List, [], ◌∷◌, ◌++◌, length, Some, None, option_map, refl, sym, ap, ◌∙◌, subst, arith, length-append, inl, inr}
 use Rattle.std.specs.Str.{bytes_eq}
-use Rattle.std.proofs.lemmas.Slice.Eq.{bytes_eq-Decides}
-use Rattle.std.proofs.lemmas.Bool.{eq-eqb, ne_eqb, lt-ltb, le-ltb}
-use Rattle.smp_split.specs.Trees.{Tree, Lawful, weight_sum, picked}
-use Rattle.smp_split.specs.Laws.Steps.{picked_belongs}
-use Rattle.smp_log.specs.Lines.{whole_lines, lines_text}
-use Rattle.smp_log.specs.Fronts.{IsCompleteLines, StopsAt}
-use Rattle.smp_log.specs.Heads.{IsHead}
-use Rattle.smp_log.specs.Genuine.{DiffersAt}
-use Rattle.smp_log.specs.Reading.{Script, step_value, end_line, after_line, step_first}
-use Rattle.smp_split.specs.Sectioning.{Sectioning, IsSectioned}
-use Rattle.smp_log.specs.SectionLogs.{sectioned_head, IsSectionedGenuine}
+use Rattle.std.proofs.{lemmas.Slice.Eq.{bytes_eq-Decides}, lemmas.Bool.{eq-eqb, ne_eqb, lt-ltb, le-ltb}}
+use Rattle.smp_split.specs.{Trees.{Tree, Lawful, weight_sum, picked}, Laws.Steps.{picked_belongs}, Sectioning.{Sectioning, IsSectioned}}
+use Rattle.smp_log.specs.{Lines.{whole_lines, lines_text}, Fronts.{IsCompleteLines, StopsAt}, Heads.{IsHead}, Genuine.{DiffersAt}}
+use Rattle.smp_log.specs.{Reading.{Script, step_value, end_line, after_line, step_first}, SectionLogs.{sectioned_head, IsSectionedGenuine}}
 use Rattle.smp_log.specs.SectionReading.{stratum_line, done_line, SectionPlace, heading, opening, inside, closed, before, section_script, taken_at}
 use Rattle.smp_log.proofs.FirstLines.{first_is, first_stuck, step_stuck, first_step, first_within, shorter_by}
-use Rattle.smp_log.proofs.Reached.{LeadsAlong, Reached, reached_more}
-use Rattle.smp_log.proofs.Described.{Describes, whole_text, differs, differs_behind, genuine}
+use Rattle.smp_log.proofs.{Reached.{LeadsAlong, Reached, reached_more}, Described.{Describes, whole_text, differs, differs_behind, genuine}}
 use Rattle.smp_log.proofs.SectionScripts.{later_section, going_here, done_here}
 use Rattle.smp_log.proofs.KeptSections.{sectioned_head_lines, sectioned_head_lines_are, sectioned_head-text, described}
 

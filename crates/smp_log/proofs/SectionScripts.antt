@@ -3,19 +3,13 @@ use Rattle.std.proofs.Common.{◌≡◌, ◌≢◌, ℕ, zero, suc, ◌+◌, ◌
 use Rattle.std.specs.Str.{bytes_eq}
 use Rattle.std.proofs.lemmas.Slice.Eq.{bytes_eq-Decides}
 use Rattle.std.proofs.lemmas.Bool.{cases_Bool, eqb-true, eqb-false, eq-eqb, ne_eqb, lt-ltb, le-ltb, ltb-true}
-use Rattle.smp_split.specs.Trees.{Tree, Lawful, weight_sum, picked}
-use Rattle.smp_split.specs.Paths.{Entry, Leads, entry_at, values_of}
-use Rattle.smp_split.specs.Laws.Steps.{picked_is_part, picked_belongs}
+use Rattle.smp_split.specs.{Trees.{Tree, Lawful, weight_sum, picked}, Paths.{Entry, Leads, entry_at, values_of}}
+use Rattle.smp_split.specs.{Laws.Steps.{picked_is_part, picked_belongs}, Sectioning.{Sectioning, IsSectioned}}
 use Rattle.smp_split.proofs.Paths.{below}
-use Rattle.smp_log.specs.Reading.{Script, step_line, end_line, step_value}
-use Rattle.smp_split.specs.Sectioning.{Sectioning, IsSectioned}
-use Rattle.smp_log.specs.SectionLogs.{placed, tape_place}
-use Rattle.smp_log.proofs.StepsIn.{steps_before, steps_in}
+use Rattle.smp_log.specs.{Reading.{Script, step_line, end_line, step_value}, SectionLogs.{placed, tape_place}}
+use Rattle.smp_log.proofs.{StepsIn.{steps_before, steps_in}, StepLines.{step_value-is, step_value-line}, Scripts.{Accepts, Ends}}
 use Rattle.smp_log.specs.SectionReading.{stratum_line, done_line, SectionPlace, heading, opening, inside, closed, before, section_script, taken_at}
-use Rattle.smp_log.proofs.StepLines.{step_value-is, step_value-line}
-use Rattle.smp_log.proofs.HeadLines.{AreHeads, HasHead, behind_head, has_head}
-use Rattle.smp_log.proofs.Scripts.{Accepts, Ends}
-use Rattle.smp_log.proofs.Options.{mapped, some_cond}
+use Rattle.smp_log.proofs.{HeadLines.{AreHeads, HasHead, behind_head, has_head}, Options.{mapped, some_cond}}
 
 -- ---- the lines of sections
 

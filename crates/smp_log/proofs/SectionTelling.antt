@@ -1,28 +1,16 @@
 -- What a log of version 2 tells of its path.
 use Rattle.std.proofs.Common.{◌≡◌, ◌≢◌, ℕ, zero, suc, ◌+◌, ◌<◌, ◌≤◌, ◌==◌, true, false, cond, nat_lt, List, [], ◌∷◌, ◌++◌, drop, Option, Some, None, refl, sym, ap, ◌∙◌, subst, arith, codes, inl, inr}
-use Rattle.std.specs.Prelude.{option_and_then}
-use Rattle.std.specs.Fmt.{decimal}
+use Rattle.std.specs.{Prelude.{option_and_then}, Fmt.{decimal}}
 use Rattle.std.proofs.lemmas.Bool.{cases_Bool, eqb-true, eqb-false}
-use Rattle.smp_split.specs.declared.kind.Kind.{Kind}
-use Rattle.smp_split.specs.declared.kind.Kind.TheVariants.{Order}
-use Rattle.smp_split.specs.Kinds.{kind_word}
-use Rattle.smp_split.specs.Trees.{Tree, Lawful, weight_sum, picked}
-use Rattle.smp_split.specs.Paths.{Entry, Leads}
-use Rattle.smp_split.specs.Sectioning.{Sectioning, IsSectioned}
+use Rattle.smp_split.specs.{declared.kind.Kind.{Kind}, declared.kind.Kind.TheVariants.{Order}, Kinds.{kind_word}, Paths.{Entry, Leads}}
+use Rattle.smp_split.specs.{Trees.{Tree, Lawful, weight_sum, picked}, Sectioning.{Sectioning, IsSectioned}}
 use Rattle.smp_split.specs.Laws.Steps.{picked_belongs, value_within}
-use Rattle.smp_log.specs.Lines.{whole_lines}
-use Rattle.smp_log.specs.Heads.{IsHead}
+use Rattle.smp_log.specs.{Lines.{whole_lines}, Heads.{IsHead}, SectionLogs.{placed, IsSectionedGenuine}}
 use Rattle.smp_log.specs.Reading.{Script, behind, numbers_of, value_of, step_line, step_value, after_line}
-use Rattle.smp_log.specs.SectionLogs.{placed, IsSectionedGenuine}
-use Rattle.smp_log.specs.SectionReading.{stratum_line, done_line}
-use Rattle.smp_log.specs.Told.{path_along, path_told, path_in_first_lines, IsToldAlong}
-use Rattle.smp_log.proofs.FirstLines.{first_is}
-use Rattle.smp_log.proofs.Described.{whole_text}
-use Rattle.smp_log.proofs.OnePath.{entry_is, value_read}
-use Rattle.smp_log.proofs.Reached.{Reached}
-use Rattle.smp_log.proofs.Telling.{none_along, step_along, told_over}
+use Rattle.smp_log.specs.{SectionReading.{stratum_line, done_line}, Told.{path_along, path_told, path_in_first_lines, IsToldAlong}}
+use Rattle.smp_log.proofs.{FirstLines.{first_is}, Described.{whole_text}, OnePath.{entry_is, value_read}, Reached.{Reached}}
+use Rattle.smp_log.proofs.{Telling.{none_along, step_along, told_over}, KeptSections.{sectioned_head_lines, log_lines, log_lines_are}}
 use Rattle.smp_log.proofs.SectionScripts.{open_lines, inside_lines, open_lines-enter, inside_lines-step, inside_lines-leave, placed_from, later_section, done_here}
-use Rattle.smp_log.proofs.KeptSections.{sectioned_head_lines, log_lines, log_lines_are}
 
 -- ---- lines that are no steps
 

@@ -2,14 +2,11 @@
 use Rattle.std.proofs.Common.{◌≡◌, ℕ, zero, suc, ◌+◌, ◌<◌, ◌≤◌, nat_lt, Bool, true, false, cond, List, [], ◌∷◌, ◌++◌, length, refl, sym, ap, ◌∙◌, subst, arith, append_assoc, codes}
 use Rattle.std.specs.List.{flat_map, range_with_len}
 use Rattle.smp_split.specs.Paths.{Entry}
-use Rattle.smp_log.specs.Lines.{lines_text}
-use Rattle.smp_log.specs.Logs.{step_text, end_text}
+use Rattle.smp_log.specs.{Lines.{lines_text}, Logs.{step_text, end_text}, Reading.{step_line, end_line}}
 use Rattle.smp_log.specs.SectionLogs.{RiseFrom, stratum_text, done_text, section_text, sectioned_head, sections_text}
-use Rattle.smp_log.specs.Reading.{step_line, end_line}
 use Rattle.smp_log.specs.SectionReading.{stratum_line, done_line}
-use Rattle.smp_log.proofs.LineTexts.{step_text_line, end_text_line}
+use Rattle.smp_log.proofs.{LineTexts.{step_text_line, end_text_line}, KeptSections.{sections_lines, numbered_text}}
 use Rattle.smp_log.proofs.SectionScripts.{AllFrom, all_from_less, open_lines, inside_lines, open_lines-enter, inside_lines-step, inside_lines-leave}
-use Rattle.smp_log.proofs.KeptSections.{sections_lines, numbered_text}
 
 -- before a section or the last line: the text so far, and then the lines of the steps that are left, are the log
 pub record WritesOpening (head : List ℕ) (count : ℕ) (steps : List (ℕ × Entry)) (h taken next : ℕ) (left : List (ℕ × Entry)) (text : List ℕ) : Type 0 where

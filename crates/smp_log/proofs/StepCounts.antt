@@ -1,16 +1,8 @@
 -- The lines of a log, and how many there are.
-use Rattle.std.proofs.Common.{◌≡◌, ℕ, suc, ◌+◌, List, ◌++◌, length, map, ap, ◌∙◌, arith, length-append}
-use Rattle.std.proofs.lemmas.List.{length-map}
-use Rattle.smp_split.specs.Trees.{Tree, Lawful}
-use Rattle.smp_split.specs.Paths.{Entry}
-use Rattle.smp_log.specs.Lines.{whole_lines}
-use Rattle.smp_log.specs.Heads.{IsHead}
-use Rattle.smp_log.specs.Logs.{log_text}
-use Rattle.smp_log.specs.Reading.{step_line, end_line}
-use Rattle.smp_log.proofs.Described.{whole_text}
-use Rattle.smp_log.proofs.Heads.{head_lines, head_lines_are}
-use Rattle.smp_log.proofs.Logs.{lines_after}
-use Rattle.smp_log.proofs.Kept.{log_lines, log_lines_are}
+use Rattle.std.proofs.{Common.{◌≡◌, ℕ, suc, ◌+◌, List, ◌++◌, length, map, ap, ◌∙◌, arith, length-append}, lemmas.List.{length-map}}
+use Rattle.smp_split.specs.{Trees.{Tree, Lawful}, Paths.{Entry}}
+use Rattle.smp_log.specs.{Lines.{whole_lines}, Heads.{IsHead}, Logs.{log_text}, Reading.{step_line, end_line}}
+use Rattle.smp_log.proofs.{Described.{whole_text}, Heads.{head_lines, head_lines_are}, Logs.{lines_after}, Kept.{log_lines, log_lines_are}}
 
 module _ {State : Type 0} (tree : Tree State) (belongs : State → Type 0) (lawful : Lawful tree belongs) (from : State) (member : belongs from) (head : List ℕ) (h : IsHead head) (path : List Entry) where
   pub lines_are : whole_lines (log_text head path) ≡ head_lines h ++ lines_after end_line 0 path

@@ -1,22 +1,12 @@
 -- Which lines are read as a step, and with which value.
 use Rattle.std.proofs.Common.{◌≡◌, ℕ, ◌^◌, ◌<◌, ◌==◌, Bool, true, cond, nat_lt, List, [], ◌∷◌, ◌++◌, Option, Some, None, refl, sym, ap, ◌∙◌, arith, inl, codes}
-use Rattle.std.specs.Prelude.{option_and_then}
-use Rattle.std.proofs.lemmas.Bool.{eqb-true, eq-eqb, ltb-true, lt-ltb}
-use Rattle.std.proofs.lemmas.Bool.Decides.{same_from_decides}
-use Rattle.std.proofs.lemmas.Slice.Eq.{bytes_eq-Decides}
-use Rattle.std.proofs.lemmas.List.{append_cancel_left}
-use Rattle.std.specs.Bool.{Decides}
-use Rattle.std.specs.Str.{bytes_eq}
-use Rattle.std.specs.Fmt.{decimal}
+use Rattle.std.specs.{Prelude.{option_and_then}, Bool.{Decides}, Str.{bytes_eq}, Fmt.{decimal}}
+use Rattle.std.proofs.{lemmas.Bool.{eqb-true, eq-eqb, ltb-true, lt-ltb}, lemmas.Bool.Decides.{same_from_decides}}
+use Rattle.std.proofs.{lemmas.Slice.Eq.{bytes_eq-Decides}, lemmas.List.{append_cancel_left}}
 use Rattle.smp_frac.specs.Cuts.{cut_at}
-use Rattle.smp_split.specs.declared.kind.Kind.{Kind}
-use Rattle.smp_split.specs.declared.kind.Kind.TheVariants.{Order}
-use Rattle.smp_split.specs.Kinds.{kind_word}
-use Rattle.smp_split.specs.Paths.{Entry}
-use Rattle.smp_log.specs.Reading.{step_line, end_line, behind, written, below, value_of, numbers_of, step_value}
-use Rattle.smp_log.specs.Lines.{Lacks}
-use Rattle.smp_log.proofs.Options.{cond_some, goes_on}
-use Rattle.smp_log.proofs.Texts.{cons-Lacks, Lacks-append, cut_behind, cut_parts, behind-append, behind-is}
+use Rattle.smp_split.specs.{declared.kind.Kind.{Kind}, declared.kind.Kind.TheVariants.{Order}, Kinds.{kind_word}, Paths.{Entry}}
+use Rattle.smp_log.specs.{Reading.{step_line, end_line, behind, written, below, value_of, numbers_of, step_value}, Lines.{Lacks}}
+use Rattle.smp_log.proofs.{Options.{cond_some, goes_on}, Texts.{cons-Lacks, Lacks-append, cut_behind, cut_parts, behind-append, behind-is}}
 use Rattle.smp_log.proofs.Numbers.{decimal_lacks, written-decimal, written-is}
 
 -- ---- a line that is read is the line of the step

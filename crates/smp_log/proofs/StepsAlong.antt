@@ -2,25 +2,14 @@
 use Rattle.std.proofs.Common.{◌≡◌, ℕ, suc, ◌+◌, nat_lt, Bool, true, false, cond, List, [], ◌∷◌, ◌++◌, length, Option, Err, Some, None, option_map, refl, sym, ap, ◌∙◌, subst, arith, append_assoc}
 use Rattle.std.specs.Prelude.{option_and_then}
 use Rattle.smp_frac.specs.Cuts.{cut_at}
-use Rattle.smp_split.specs.Trees.{Tree, Lawful, weight_sum, picked}
-use Rattle.smp_split.specs.Paths.{Entry, Leads, entry_at}
-use Rattle.smp_split.specs.Runs.{and_then}
+use Rattle.smp_split.specs.{Trees.{Tree, Lawful, weight_sum, picked}, Paths.{Entry, Leads, entry_at}, Runs.{and_then}}
 use Rattle.smp_split.specs.Laws.Steps.{and_then-nil, and_then-append, leads_belong, picked_belongs, value_within}
-use Rattle.smp_log.specs.Logs.{step_text, steps_text}
-use Rattle.smp_log.specs.Reading.{step_line, step_value, step_first}
-use Rattle.smp_log.specs.Replayed.{Form, Replays}
-use Rattle.smp_log.specs.SectionLogs.{tape_place}
-use Rattle.smp_log.specs.SectionReading.{taken_at}
-use Rattle.smp_log.specs.Steps.{AreMade, AreStopped, EachPasses}
-use Rattle.smp_log.specs.Told.{IsToldAlong, IsToldPart}
-use Rattle.smp_log.specs.declared.fault.ReplayFault.{ReplayFault}
+use Rattle.smp_log.specs.{Logs.{step_text, steps_text}, Reading.{step_line, step_value, step_first}, Replayed.{Form, Replays}}
+use Rattle.smp_log.specs.{SectionLogs.{tape_place}, SectionReading.{taken_at}, Steps.{AreMade, AreStopped, EachPasses}}
+use Rattle.smp_log.specs.{Told.{IsToldAlong, IsToldPart}, declared.fault.ReplayFault.{ReplayFault}}
 use Rattle.smp_log.specs.declared.fault.ReplayFault.TheVariants.{Differs, NoMemory}
-use Rattle.smp_log.proofs.LineTexts.{step_text_line}
-use Rattle.smp_log.proofs.OnePath.{entry_is, value_read}
-use Rattle.smp_log.proofs.Replied.{ran_out, refused}
-use Rattle.smp_log.proofs.SectionScripts.{tape_place-step}
-use Rattle.smp_log.proofs.StepLines.{step_line_lacks}
-use Rattle.smp_log.proofs.Texts.{cut_behind}
+use Rattle.smp_log.proofs.{LineTexts.{step_text_line}, OnePath.{entry_is, value_read}, Replied.{ran_out, refused}, Texts.{cut_behind}}
+use Rattle.smp_log.proofs.{SectionScripts.{tape_place-step}, StepLines.{step_line_lacks}}
 
 -- A form of log is read on through a part behind so many lines: each of its steps keeps how the replay stands, which says what was
 -- told so far; and where the line of a step is missing, the log differs there.

@@ -1,18 +1,10 @@
 -- The steps that a replay made: one by what it gave, and those of a part together.
 use Rattle.std.proofs.Common.{◌≡◌, ℕ, ◌+◌, nat_lt, Bool, true, false, cond, List, [], ◌∷◌, ◌++◌, Option, Some, None, option_map, refl, sym, ap, ◌∙◌, subst, arith, append_assoc, length-append}
-use Rattle.std.proofs.lemmas.Grind.{flat_map-append}
-use Rattle.std.proofs.lemmas.List.{append-nil}
-use Rattle.smp_split.specs.Trees.{Tree, weight_sum, picked}
-use Rattle.smp_split.specs.Paths.{Entry, Leads, entry_at}
-use Rattle.smp_split.specs.Runs.{and_then}
+use Rattle.std.proofs.{lemmas.Grind.{flat_map-append}, lemmas.List.{append-nil}}
+use Rattle.smp_split.specs.{Trees.{Tree, weight_sum, picked}, Paths.{Entry, Leads, entry_at}, Runs.{and_then}}
 use Rattle.smp_split.specs.Laws.Steps.{Leads-push, and_then-nil, and_then-append}
-use Rattle.smp_log.specs.Logs.{step_text, steps_text}
-use Rattle.smp_log.specs.SectionLogs.{tape_place}
-use Rattle.smp_log.specs.Steps.{IsLeft, IsMade, StepsOn, EachPasses, AreMade}
-use Rattle.smp_log.proofs.FirstLines.{first_step}
-use Rattle.smp_log.proofs.LineTexts.{step_text_line}
-use Rattle.smp_log.proofs.SectionScripts.{tape_place-step}
-use Rattle.smp_log.proofs.StepLines.{step_value-is}
+use Rattle.smp_log.specs.{Logs.{step_text, steps_text}, SectionLogs.{tape_place}, Steps.{IsLeft, IsMade, StepsOn, EachPasses, AreMade}}
+use Rattle.smp_log.proofs.{FirstLines.{first_step}, LineTexts.{step_text_line}, SectionScripts.{tape_place-step}, StepLines.{step_value-is}}
 use Rattle.smp_log.proofs.Texts.{cut_parts}
 
 module _ {State Given : Type 0} (tree : Tree State) (from to : State) (text : List ℕ) (seen : Given → List ℕ × ℕ) (old new : Option (List Entry)) where

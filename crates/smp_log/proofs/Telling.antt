@@ -1,23 +1,14 @@
 -- What a log tells of its path.
 use Rattle.std.proofs.Common.{◌≡◌, ℕ, ◌+◌, ◌<◌, ◌≤◌, true, false, List, [], ◌∷◌, ◌++◌, length, map, drop, take, Option, Some, None, refl, sym, ap, ◌∙◌, subst, arith, length-append, inl, inr}
-use Rattle.std.proofs.lemmas.Bool.{cases_Bool}
-use Rattle.std.proofs.lemmas.List.{append-nil, drop_all, drop-append-le, length-take}
+use Rattle.std.proofs.{lemmas.Bool.{cases_Bool}, lemmas.List.{append-nil, drop_all, drop-append-le, length-take}}
 use Rattle.smp_frac.specs.Cuts.{cut_at}
-use Rattle.smp_split.specs.Trees.{Tree, Lawful, weight_sum, picked}
-use Rattle.smp_split.specs.Paths.{Entry, Leads, entry_at}
-use Rattle.smp_split.specs.Runs.{and_then}
+use Rattle.smp_split.specs.{Trees.{Tree, Lawful, weight_sum, picked}, Paths.{Entry, Leads, entry_at}, Runs.{and_then}}
 use Rattle.smp_split.specs.Laws.Steps.{Leads-push, picked_belongs, value_within, and_then-nil, and_then-append}
-use Rattle.smp_log.specs.Lines.{whole_lines}
-use Rattle.smp_log.specs.Fronts.{StopsAt}
-use Rattle.smp_log.specs.Heads.{IsHead}
-use Rattle.smp_log.specs.Genuine.{IsGenuine, IsUnambiguous}
+use Rattle.smp_log.specs.{Lines.{whole_lines}, Fronts.{StopsAt}, Heads.{IsHead}, Genuine.{IsGenuine, IsUnambiguous}}
 use Rattle.smp_log.specs.Reading.{Script, step_line, step_value, step_first, end_line}
 use Rattle.smp_log.specs.Told.{path_along, path_told, path_in_first_lines, IsToldAlong, IsToldPart}
-use Rattle.smp_log.proofs.FirstLines.{first_step}
-use Rattle.smp_log.proofs.Reached.{Reached, first_lines, next_lines, reached_lines}
-use Rattle.smp_log.proofs.StepLines.{step_value-is}
-use Rattle.smp_log.proofs.OnePath.{entry_is, value_read, both}
-use Rattle.smp_log.proofs.StepCounts.{lines_are, log_count}
+use Rattle.smp_log.proofs.{FirstLines.{first_step}, Reached.{Reached, first_lines, next_lines, reached_lines}, StepLines.{step_value-is}}
+use Rattle.smp_log.proofs.{OnePath.{entry_is, value_read, both}, StepCounts.{lines_are, log_count}}
 
 module _ {State : Type 0} (tree : Tree State) where
   -- at a leaf nothing more is told

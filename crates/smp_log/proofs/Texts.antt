@@ -2,8 +2,7 @@
 use Rattle.std.proofs.Common.{◌≡◌, ℕ, ◌==◌, true, false, List, [], ◌∷◌, ◌++◌, Option, Some, None, option_map, refl, sym, ap, ◌∙◌, subst, append_assoc, inl, inr}
 use Rattle.std.proofs.lemmas.Bool.{cases_Bool, eqb-true, eq-eqb}
 use Rattle.smp_frac.specs.Cuts.{cut_at}
-use Rattle.smp_log.specs.Lines.{longer, whole_lines, lines_text, Lacks, AreLines}
-use Rattle.smp_log.specs.Reading.{behind}
+use Rattle.smp_log.specs.{Lines.{longer, whole_lines, lines_text, Lacks, AreLines}, Reading.{behind}}
 
 -- ---- a byte that a text lacks
 

@@ -1,26 +1,15 @@
 -- Logs of two versions, which differ in their first lines.
 use Rattle.std.proofs.Common.{◌≡◌, ℕ, zero, suc, ◌≤◌, Bool, true, false, cond, List, [], ◌∷◌, ◌++◌, length, take, drop, get_or, Option, Some, None, Result, Ok, Err, refl, sym, ap, ◌∙◌, subst, arith, codes, inl, inr, ◌⊎◌}
 use Rattle.smp_frac.specs.Cuts.{cut_at}
-use Rattle.smp_log.specs.Lines.{whole_lines, lines_text, Lacks, ShareLines}
-use Rattle.smp_log.specs.Heads.{IsHead}
-use Rattle.smp_log.specs.Genuine.{IsGenuine, DiffersAt}
-use Rattle.smp_log.specs.Answers.{IsAnswer, IsExactAnswer, log_reading}
-use Rattle.smp_split.specs.Trees.{Tree, Lawful}
-use Rattle.smp_split.specs.Sectioning.{Sectioning, IsSectioned}
-use Rattle.std.specs.List.{flat_map, range_with_len}
-use Rattle.std.specs.Prelude.{is_some}
+use Rattle.smp_log.specs.{Lines.{whole_lines, lines_text, Lacks, ShareLines}, Heads.{IsHead}, Genuine.{IsGenuine, DiffersAt}}
+use Rattle.smp_log.specs.{Answers.{IsAnswer, IsExactAnswer, log_reading}, Logs.{steps_text, end_text}, Reading.{behind}, Told.{path_told}}
+use Rattle.smp_split.specs.{Trees.{Tree, Lawful}, Sectioning.{Sectioning, IsSectioned}}
+use Rattle.std.specs.{List.{flat_map, range_with_len}, Prelude.{is_some}}
 use Rattle.std.proofs.lemmas.Bool.{false≢true}
-use Rattle.smp_log.specs.Logs.{steps_text, end_text}
-use Rattle.smp_log.specs.Reading.{behind}
-use Rattle.smp_log.specs.Told.{path_told}
 use Rattle.smp_log.specs.SectionReading.{any_reading, is_sectioned, sectioned_reading}
 use Rattle.smp_log.specs.SectionLogs.{placed, section_text, IsSectionedGenuine, IsAnyGenuine, IsOnePathed}
-use Rattle.smp_log.proofs.Texts.{whole_lines-cons, whole_lines-none, cut_parts, behind-append, behind-is}
-use Rattle.smp_log.proofs.Answered.{exact_reading}
-use Rattle.smp_log.proofs.AnsweredSections.{exact_sectioned}
-use Rattle.smp_log.proofs.Paths.{one_end}
-use Rattle.smp_log.proofs.Telling.{genuine_told}
-use Rattle.smp_log.proofs.SectionTelling.{sectioned_told}
+use Rattle.smp_log.proofs.{Texts.{whole_lines-cons, whole_lines-none, cut_parts, behind-append, behind-is}, Answered.{exact_reading}}
+use Rattle.smp_log.proofs.{AnsweredSections.{exact_sectioned}, Paths.{one_end}, Telling.{genuine_told}, SectionTelling.{sectioned_told}}
 
 -- a text with this first line
 pub record Starts (first text : List ℕ) : Type 0 where

@@ -1,18 +1,14 @@
 -- A procedure takes the values that a frame has for it.
 use Rattle.std.proofs.Common.{◌≡◌, ℕ, zero, suc, ◌-◌, ◌^◌, ◌<◌, ◌≤◌, true, true≢false, ℤ, List, [], ◌∷◌, length, get_or, All, arith, refl, sym, ap, ◌∙◌, inl, inr}
-use Rattle.std.proofs.lemmas.Bool.{cases_Bool}
-use Rattle.std.proofs.lemmas.List.Elements.{All-get_or}
+use Rattle.std.proofs.{lemmas.Bool.{cases_Bool}, lemmas.List.Elements.{All-get_or}}
 use Rattle.smp_kernel.specs.Vectors.{Within}
-use Rattle.smp_design.specs.declared.method.Method.{Method}
+use Rattle.smp_design.specs.{declared.method.Method.{Method}, Words.{row, balances, is_near, most_near}}
 use Rattle.smp_design.specs.declared.method.Method.TheVariants.{Cube, LocalCube, LocalPivotal, StratifiedCube}
-use Rattle.smp_design.specs.Words.{row, balances, is_near, most_near}
 use Rattle.smp_design.proofs.Rows.{balance_columns, near_columns}
 use Rattle.smp_flight.specs.Requests.{AreValues}
-use Rattle.smp_design.specs.declared.procedure.Procedure.{Procedure}
-use Rattle.smp_design.specs.Procedures.{AreNeeded, From1To, IsProcedure, without_values}
+use Rattle.smp_design.specs.{declared.procedure.Procedure.{Procedure}, Procedures.{AreNeeded, From1To, IsProcedure, without_values}}
 use Rattle.smp_prob.specs.declared.requests.Request.{Request}
-use Rattle.smp_methods.specs.Designs.{design_by, design_of}
-use Rattle.smp_methods.specs.Procedures.{TakesValues}
+use Rattle.smp_methods.specs.{Designs.{design_by, design_of}, Procedures.{TakesValues}}
 use Rattle.smp_methods.proofs.Wholes.{is_needed, needed_if}
 
 module _ (columns : ℕ) (values : List (List ℤ)) (counted : All (λ v. length v ≡ columns) values) (small : All (Within (2 ^ 31 - 1)) values) where

@@ -1,56 +1,35 @@
 -- A design starts so, whoever starts it: as a lemma, without a call.
 use Rattle.std.proofs.Common.{◌≡◌, ℕ, zero, suc, ◌^◌, ◌<◌, true≢false, ℤ, List, [], ◌∷◌, length, get_or, arith, refl, ◌∙◌}
 use Rattle.std.proofs.lemmas.List.{length-map}
-use Rattle.smp_frac.specs.Fractions.{Same}
+use Rattle.smp_frac.specs.{Fractions.{Same}, Limits.{most_denominator}}
 use Rattle.smp_frac.proofs.Arithmetic.{same_refl}
-use Rattle.smp_prob.specs.declared.orders.Order.{Order}
-use Rattle.smp_prob.specs.declared.requests.Request.{Request}
-use Rattle.smp_prob.specs.Requests.{IsRequest}
+use Rattle.smp_prob.specs.{declared.orders.Order.{Order}, declared.requests.Request.{Request}, Requests.{IsRequest}}
 use Rattle.smp_prob.specs.Shares.{Shares, draws_of, numerators, shares_of}
-use Rattle.smp_frac.specs.Limits.{most_denominator}
-use Rattle.smp_split.specs.Counts.{LeavesSelectAround}
-use Rattle.smp_split.specs.Methods.{Starts}
-use Rattle.smp_split.specs.Orders.{ordered_tree}
-use Rattle.smp_values.specs.InOrder.{LawfulRule, StepRule, placed_method, places_tree}
-use Rattle.smp_values.specs.Starts.{IsRequested, ordered_values}
+use Rattle.smp_split.specs.{Counts.{LeavesSelectAround}, Methods.{Starts}, Orders.{ordered_tree}}
+use Rattle.smp_values.specs.{InOrder.{LawfulRule, StepRule, placed_method, places_tree}, Starts.{IsRequested, ordered_values}}
 use Rattle.smp_values.specs.Values.{IsValues, exchanged_values, value_at}
 use Rattle.smp_values.proofs.InOrder.{placed_around, placed_starts}
 use Rattle.smp_values.proofs.Requests.{few_shares, requested_in_order, requested_values, shares_in_range, wider}
-use Rattle.smp_design.specs.declared.method.Method.{Method}
+use Rattle.smp_design.specs.{declared.method.Method.{Method}, Words.{row}, declared.procedure.Procedure.{Procedure}}
 use Rattle.smp_design.specs.declared.method.Method.TheVariants as method
-use Rattle.smp_design.specs.Words.{row}
-use Rattle.smp_flight.specs.Requests.{AreValues, units_of}
-use Rattle.smp_flight.specs.Selections.{IsBalancing, starting}
-use Rattle.smp_flight.proofs.Making.{units_are}
-use Rattle.smp_flight.specs.Laws.NextProperties.{started_flight}
-use Rattle.smp_flight.proofs.CubeStarts.{cube_starts, starts_requested as cube_requested}
+use Rattle.smp_flight.specs.{Requests.{AreValues, units_of}, Selections.{IsBalancing, starting}, Laws.NextProperties.{started_flight}}
+use Rattle.smp_flight.proofs.{Making.{units_are}, CubeStarts.{cube_starts, starts_requested as cube_requested}}
 use Rattle.smp_localcube.proofs.Starts.{local_starts as local_cube_starts, starts_requested as local_cube_requested}
 use Rattle.smp_localpiv.specs.Coordinates.{points_of}
 use Rattle.smp_localpiv.proofs.Starts.{local_around, local_starts, starts_open, starts_requested as local_requested}
-use Rattle.smp_stratcube.specs.Layers.{IsLayer, Layer, no_layer}
-use Rattle.smp_stratcube.specs.Kept.Layers.{layer_of}
+use Rattle.smp_stratcube.specs.{Layers.{IsLayer, Layer, no_layer}, Kept.Layers.{layer_of}}
 use Rattle.smp_stratcube.specs.Units as strata
-use Rattle.smp_stratcube.proofs.BySteps.{counts_so, is_balanced}
-use Rattle.smp_stratcube.proofs.Layered.{units_are as layers_units}
+use Rattle.smp_stratcube.proofs.{BySteps.{counts_so, is_balanced}, Layered.{units_are as layers_units}, Stored.{layer_is}}
 use Rattle.smp_stratcube.proofs.Starting.{are_requested, strat_means}
-use Rattle.smp_stratcube.proofs.Stored.{layer_is}
-use Rattle.smp_pivotal.specs.Pivotal.{pivotal_rule}
-use Rattle.smp_pivotal.specs.Laws.PivotalSplits.{pivotal_law}
-use Rattle.smp_pivotal.specs.Systematic.{systematic_rule}
+use Rattle.smp_pivotal.specs.{Pivotal.{pivotal_rule}, Laws.PivotalSplits.{pivotal_law}, Systematic.{systematic_rule}}
 use Rattle.smp_pivotal.specs.Laws.SystematicSplits.{systematic_law}
 use Rattle.smp_minsup.specs.Support.{support_tree}
-use Rattle.smp_minsup.proofs.FewLeaves.{support_starts}
-use Rattle.smp_minsup.proofs.Requests.{belongs_requested}
-use Rattle.smp_brewer.proofs.First.{first_offers}
-use Rattle.smp_brewer.proofs.Starts.{brewing_starts, starts_requested as brewing_requested}
+use Rattle.smp_minsup.proofs.{FewLeaves.{support_starts}, Requests.{belongs_requested}}
+use Rattle.smp_brewer.proofs.{First.{first_offers}, Starts.{brewing_starts, starts_requested as brewing_requested}}
 use Rattle.smp_elim.proofs.Starting.{are_sizes, begun_at, drawn_within, starts_requested as elimination_requested}
-use Rattle.smp_methods.specs.declared.any.AnyDesign.{AnyDesign}
-use Rattle.smp_design.specs.declared.procedure.Procedure.{Procedure}
-use Rattle.smp_methods.specs.Designs.{design_of, first_state}
-use Rattle.smp_methods.specs.Procedures.{NeedsWhole, TakesValues}
+use Rattle.smp_methods.specs.{declared.any.AnyDesign.{AnyDesign}, Designs.{design_of, first_state}, Procedures.{NeedsWhole, TakesValues}}
 use Rattle.smp_methods.specs.Starts.{IsStarted}
-use Rattle.smp_methods.proofs.OneStratum.{are_layers, are_numbers, one_requested}
-use Rattle.smp_methods.proofs.Starts.{is_started}
+use Rattle.smp_methods.proofs.{OneStratum.{are_layers, are_numbers, one_requested}, Starts.{is_started}}
 
 module _ (order : Order) (balance near : ℕ) (request : Request) (values points : List (List ℤ)) (is : IsRequest request) where
   abbrev way : Method → Procedure

@@ -1,12 +1,8 @@
 -- The parts of a method's state, put among all states.
 use Rattle.std.proofs.Common.{◌≡◌, ℕ, List, Option, Some, None, refl, sym, ap, ◌∙◌}
-use Rattle.smp_split.specs.Embeds.{embedded}
-use Rattle.smp_split.specs.Parts.{moved}
-use Rattle.smp_split.specs.Trees.{Part, Tree, weight_sum, picked}
+use Rattle.smp_split.specs.{Embeds.{embedded}, Parts.{moved}, Trees.{Part, Tree, weight_sum, picked}}
 use Rattle.smp_split.specs.Laws.Parts.{weight_sum-moved, picked-moved}
-use Rattle.smp_methods.specs.declared.any.AnyState.{AnyState}
-use Rattle.smp_methods.specs.Designs.{Variant, tree_among, variant}
-use Rattle.smp_methods.specs.Kept.Alone.{IsStep, StepsAlone}
+use Rattle.smp_methods.specs.{declared.any.AnyState.{AnyState}, Designs.{Variant, tree_among, variant}, Kept.Alone.{IsStep, StepsAlone}}
 
 -- the bound of the draw is the same
 pub bound_moved : {Inner : Type 0} (into : Inner → AnyState) (parts : List (Part Inner)) → weight_sum (moved into parts) ≡ weight_sum parts

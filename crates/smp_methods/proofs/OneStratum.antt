@@ -1,37 +1,23 @@
 -- The cube over all strata, of one stratum: as many units are selected in all as in the stratum, and the values are those of the request.
 use Rattle.std.proofs.Common.{◌≡◌, ℕ, zero, suc, ◌+◌, ◌*◌, ◌<◌, ◌≤◌, Bool, true, false, ℤ, List, [], ◌∷◌, length, map, get_or, arith, refl, sym, ap, ap₂, subst, ◌∙◌, inl, inr, length-append}
-use Rattle.std.specs.Prelude.{◌&&◌, cond, nat_eq, slice_index_or}
-use Rattle.std.specs.List.{count_by, range_with_len}
-use Rattle.std.proofs.lemmas.Bool.{cases_lt, eqb-true}
-use Rattle.std.proofs.lemmas.List.{get_or_past}
-use Rattle.std.proofs.lemmas.List.FromFn.{length-map-range_with_len}
+use Rattle.std.specs.{Prelude.{◌&&◌, cond, nat_eq, slice_index_or}, List.{count_by, range_with_len}}
+use Rattle.std.proofs.{lemmas.Bool.{cases_lt, eqb-true}, lemmas.List.{get_or_past}, lemmas.List.FromFn.{length-map-range_with_len}}
 use Rattle.std.proofs.lemmas.List.Sums.{sum_by-cons}
 use Rattle.smp_frac.specs.Fractions.{Same, over, times, whole}
 use Rattle.smp_frac.proofs.Arithmetic.{same_refl, same_sym, same_trans, sum_same}
-use Rattle.smp_prob.specs.declared.requests.Request.{Request}
-use Rattle.smp_prob.specs.Requests.{IsRequest}
+use Rattle.smp_prob.specs.{declared.requests.Request.{Request}, Requests.{IsRequest}}
 use Rattle.smp_prob.proofs.Fractions.{length-numerators, numerator_is_free_fraction}
-use Rattle.smp_split.specs.Counts.{selected_count}
-use Rattle.smp_split.specs.Means.{value_sum}
-use Rattle.smp_split.specs.Methods.{HasCount}
+use Rattle.smp_split.specs.{Counts.{selected_count}, Means.{value_sum}, Methods.{HasCount}}
 use Rattle.smp_values.specs.Starts.{IsRequested}
 use Rattle.smp_values.proofs.Requests.{requested_values}
-use Rattle.smp_moves.specs.Moves.{fraction_of}
-use Rattle.smp_moves.specs.Cubes.{values_in}
+use Rattle.smp_moves.specs.{Moves.{fraction_of}, Cubes.{values_in}}
 use Rattle.smp_flight.specs.Requests.{AreValues}
-use Rattle.smp_stratcube.specs.declared.values.Value.{Value}
-use Rattle.smp_stratcube.specs.Balances.{addend, target}
-use Rattle.smp_stratcube.specs.Counts.{HasCounts, selected_in}
-use Rattle.smp_stratcube.specs.States.{Balancing, started}
-use Rattle.smp_stratcube.specs.Cube.{strat_tree}
-use Rattle.smp_stratcube.specs.Layers.{AreLayers, AreNumbers, Layer, no_layer, variables}
-use Rattle.smp_stratcube.specs.Kept.Layers.{width, layer_of}
-use Rattle.smp_stratcube.specs.Requests.{AreRequested}
+use Rattle.smp_stratcube.specs.{declared.values.Value.{Value}, Balances.{addend, target}, Counts.{HasCounts, selected_in}}
+use Rattle.smp_stratcube.specs.{States.{Balancing, started}, Cube.{strat_tree}, Layers.{AreLayers, AreNumbers, Layer, no_layer, variables}}
+use Rattle.smp_stratcube.specs.{Kept.Layers.{width, layer_of}, Requests.{AreRequested}, declared.units.Member.{Member}}
 use Rattle.smp_stratcube.specs.Units.{IsUnits, Units, member_of, members_from, nobody, share, stratum, units_of}
-use Rattle.smp_stratcube.specs.declared.units.Member.{Member}
 use Rattle.smp_stratcube.specs.Values.{is_one, value_at}
-use Rattle.smp_stratcube.proofs.Balances.{first_at}
-use Rattle.smp_stratcube.proofs.Layered.{at_offset}
+use Rattle.smp_stratcube.proofs.{Balances.{first_at}, Layered.{at_offset}}
 
 count_same : (p q : ℕ → Bool) (xs : List ℕ) → ((x : ℕ) → p x ≡ q x) → count_by p xs ≡ count_by q xs
 count_same p q [] same = refl

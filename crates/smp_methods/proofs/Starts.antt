@@ -3,39 +3,25 @@ use Rattle.std.proofs.Common.{◌≡◌, ℕ, false, ℤ, List, [], ◌∷◌, O
 use Rattle.std.specs.Prelude.{IsTrue}
 use Rattle.std.proofs.lemmas.Bool.{cases_Bool}
 use Rattle.smp_frac.specs.Fractions.{Same, whole, over}
-use Rattle.smp_frac.proofs.Around.{around_over, around_same}
-use Rattle.smp_frac.proofs.Arithmetic.{same_trans}
+use Rattle.smp_frac.proofs.{Around.{around_over, around_same}, Arithmetic.{same_trans}}
 use Rattle.smp_prob.specs.declared.requests.Request.{Request}
-use Rattle.smp_split.specs.Counts.{AddsUp, LeavesSelect, LeavesSelectAround}
-use Rattle.smp_split.specs.Embeds.{embedded}
-use Rattle.smp_split.specs.Methods.{HasCount, HasMeans, Starts}
+use Rattle.smp_split.specs.{Counts.{AddsUp, LeavesSelect, LeavesSelectAround}, Embeds.{embedded}, Methods.{HasCount, HasMeans, Starts}}
 use Rattle.smp_split.specs.Trees.{Tree}
-use Rattle.smp_split.proofs.Embeds.{adds_up_inside, embedded_adds_up, embedded_around, embedded_count}
-use Rattle.smp_split.proofs.Methods.{has_means}
+use Rattle.smp_split.proofs.{Embeds.{adds_up_inside, embedded_adds_up, embedded_around, embedded_count}, Methods.{has_means}}
 use Rattle.smp_values.specs.Starts.{IsRequested, DrawsWhole}
 use Rattle.smp_values.proofs.Requests.{adds_to_draws}
 use Rattle.smp_design.specs.declared.method.Method as named
-use Rattle.smp_stratcube.specs.States.{started}
-use Rattle.smp_stratcube.specs.Layers.{Layer}
-use Rattle.smp_stratcube.specs.Kept.Layers.{layer_of}
-use Rattle.smp_stratcube.specs.Cube.{strat_tree}
-use Rattle.smp_stratcube.specs.Requests.{AreRequested}
+use Rattle.smp_stratcube.specs.{States.{started}, Layers.{Layer}, Kept.Layers.{layer_of}, Cube.{strat_tree}, Requests.{AreRequested}}
 use Rattle.smp_stratcube.specs.Units.{units_of}
-use Rattle.smp_design.specs.Words.{row, balances, draws_together}
-use Rattle.smp_design.specs.declared.method.Method.TheVariants.{StratifiedCube}
+use Rattle.smp_design.specs.{Words.{row, balances, draws_together}, declared.method.Method.TheVariants.{StratifiedCube}}
 use Rattle.smp_design.proofs.Rows.{is_together}
-use Rattle.smp_methods.specs.declared.any.AnyDesign.{AnyDesign}
-use Rattle.smp_methods.specs.declared.any.AnyState.{AnyState}
+use Rattle.smp_methods.specs.{declared.any.AnyDesign.{AnyDesign}, declared.any.AnyState.{AnyState}, Methods.{method_of}}
 use Rattle.smp_methods.specs.declared.any.AnyState.TheVariants as states
 use Rattle.smp_design.specs.declared.procedure.Procedure.{Procedure}
 use Rattle.smp_methods.specs.Designs.{Variant, design_by, design_of, design_of_strata, drawn_by, first_state, name_of, state_among, tree_among, variant, variant_of}
-use Rattle.smp_methods.specs.Methods.{method_of}
-use Rattle.smp_methods.specs.Kept.Alone.{AroundAlone, CountAlone, RequestedAlone, StrataAlone}
-use Rattle.smp_methods.specs.Procedures.{NeedsWhole}
+use Rattle.smp_methods.specs.{Kept.Alone.{AroundAlone, CountAlone, RequestedAlone, StrataAlone}, Procedures.{NeedsWhole}}
 use Rattle.smp_methods.specs.Starts.{AreStarted, IsStarted, SelectsAround}
-use Rattle.smp_methods.proofs.OneStratum.{one_count}
-use Rattle.smp_methods.proofs.Ways.{drawn_by_method}
-use Rattle.smp_methods.proofs.Wholes.{is_needed}
+use Rattle.smp_methods.proofs.{OneStratum.{one_count}, Ways.{drawn_by_method}, Wholes.{is_needed}}
 
 -- ---- what a method says of its start holds of the design among all methods
 

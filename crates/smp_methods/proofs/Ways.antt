@@ -2,13 +2,9 @@
 use Rattle.std.proofs.Common.{◌≡◌, false, ℤ, List, refl, ap, ◌∙◌}
 use Rattle.smp_prob.specs.declared.requests.Request.{Request}
 use Rattle.smp_split.specs.Counts.{LeavesSelectAround}
-use Rattle.smp_design.specs.declared.method.Method.{Method}
-use Rattle.smp_design.specs.declared.method.Method.TheVariants.{Pivotal}
-use Rattle.smp_design.specs.Words.{balances}
-use Rattle.smp_methods.specs.declared.any.AnyState.{AnyState}
+use Rattle.smp_design.specs.{declared.method.Method.{Method}, declared.method.Method.TheVariants.{Pivotal}, Words.{balances}}
+use Rattle.smp_methods.specs.{declared.any.AnyState.{AnyState}, Designs.{design_by, design_of, drawn_by}, Methods.{method_of}}
 use Rattle.smp_design.specs.declared.procedure.Procedure.{Procedure}
-use Rattle.smp_methods.specs.Designs.{design_by, design_of, drawn_by}
-use Rattle.smp_methods.specs.Methods.{method_of}
 use Rattle.smp_methods.specs.Starts.{SelectsAround}
 
 -- this is checked method by method

@@ -3,8 +3,7 @@ use Rattle.std.proofs.Common.{◌≡◌, Bool, true, false, refl}
 use Rattle.std.specs.Prelude.{IsTrue}
 use Rattle.smp_prob.specs.declared.requests.Request.{Request}
 use Rattle.smp_values.specs.Starts.{DrawsWhole}
-use Rattle.smp_design.specs.declared.procedure.Procedure.{Procedure}
-use Rattle.smp_design.specs.Words.{row}
+use Rattle.smp_design.specs.{declared.procedure.Procedure.{Procedure}, Words.{row}}
 use Rattle.smp_methods.specs.Procedures.{NeededIf, NeedsWhole}
 
 -- what is needed where a test holds

@@ -1,15 +1,12 @@
 -- A state has at most as many leaves as fractional units.
-use Rattle.std.proofs.Common.{◌≢◌, ℕ, zero, suc, ◌-◌, ◌^◌, ◌≤◌, max, length, arith, inl, inr}
-use Rattle.std.proofs.lemmas.Bool.{cases_Bool, eqb-false, lt-ltb}
+use Rattle.std.proofs.{Common.{◌≢◌, ℕ, zero, suc, ◌-◌, ◌^◌, ◌≤◌, max, length, arith, inl, inr}, lemmas.Bool.{cases_Bool, eqb-false, lt-ltb}}
 use Rattle.std.proofs.lemmas.List.Sums.{count_by-le-length}
 use Rattle.smp_prob.specs.Shares.{Shares}
-use Rattle.smp_split.specs.Leaves.{leaves, leaves_within}
-use Rattle.smp_split.specs.Methods.{Starts}
+use Rattle.smp_split.specs.{Leaves.{leaves, leaves_within}, Methods.{Starts}}
 use Rattle.smp_split.proofs.Methods.{starts}
 use Rattle.smp_values.specs.Values.{fractional, fractional_count, is_settled}
 use Rattle.smp_values.proofs.Sums.{lone_never}
-use Rattle.smp_minsup.specs.Method.{method_of}
-use Rattle.smp_minsup.specs.Support.{IsSupport, draws_of, lambda, settled, lowered, support_tree}
+use Rattle.smp_minsup.specs.{Method.{method_of}, Support.{IsSupport, draws_of, lambda, settled, lowered, support_tree}}
 use Rattle.smp_minsup.specs.Laws.Splits.{leaf_count, some_between, settled_belongs, settled_done, lowered_belongs, lowered_falls, lambda_positive, lambda_less}
 
 -- no unit alone is fractional

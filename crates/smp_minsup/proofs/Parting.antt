@@ -1,19 +1,16 @@
 -- Units that change groups, until each large one counts as larger than each small one.
 use Rattle.std.proofs.Common.{◌≡◌, ◌≢◌, ℕ, zero, suc, ◌+◌, ◌<◌, ◌≤◌, min, Bool, true, false, cond, List, [], ◌∷◌, length, map, get_or, set, arith, refl, sym, ap, ◌∙◌, subst, inl, inr, length-set}
 use Rattle.std.specs.List.{count_by, range_with_len}
-use Rattle.std.proofs.lemmas.Bool.{cases_Bool, cases_eq, cases_lt}
-use Rattle.std.proofs.lemmas.List.{get_or_past}
+use Rattle.std.proofs.{lemmas.Bool.{cases_Bool, cases_eq, cases_lt}, lemmas.List.{get_or_past}}
 use Rattle.std.proofs.lemmas.List.FromFn.{length-map-range_with_len, get_or-map-range_with_len}
 use Rattle.std.proofs.lemmas.List.Sums.{sum_by-set, count_by-le-length}
-use Rattle.smp_minsup.specs.Support.{is_larger, larger_units, least}
+use Rattle.smp_minsup.specs.{Support.{is_larger, larger_units, least}, Laws.Ranks.{larger_of, larger_total, fewer_larger}}
 use Rattle.smp_split.proofs.NumberSums.{sums, sums_but, weight_true, weight_false}
-use Rattle.smp_minsup.specs.Laws.Ranks.{larger_of, larger_total, fewer_larger}
 use Rattle.smp_values.specs.Largest.{largest_of}
 use Rattle.smp_values.proofs.Largest.{largest-at}
 use Rattle.smp_minsup.specs.Laws.Bounds.{least-at, least_within}
 use Rattle.smp_minsup.specs.Kept.Ranked.{RankedUnits, IsMostSmall, IsLeastLarge, IsParted, IsMixed, is_in, large_count, largest_small, least_large, placed}
-use Rattle.smp_minsup.proofs.Queues.{count-cons, none_passes}
-use Rattle.smp_minsup.proofs.Ranking.{placed_here, placed_other}
+use Rattle.smp_minsup.proofs.{Queues.{count-cons, none_passes}, Ranking.{placed_here, placed_other}}
 
 -- a unit is in one group alone
 pub not_both : (large : List Bool) (i j : ℕ) → is_in large i ≡ true → is_in large j ≡ false → i ≢ j

@@ -1,10 +1,7 @@
 -- A queue has one entry for each unit of a group, and none besides.
 use Rattle.std.proofs.Common.{◌≡◌, ◌≢◌, ℕ, zero, suc, ◌+◌, ◌<◌, ◌≤◌, Bool, true, false, cond, nat_eq, List, [], ◌∷◌, length, get_or, Result, Ok, Err, arith, rules, sym, ap, ◌∙◌, subst, inl, inr}
-use Rattle.std.specs.Result.{IsOk, OnOk}
-use Rattle.std.specs.List.{All, AllByRecursion, count_by}
-use Rattle.std.specs.List.Sorted.{IsPermutation}
-use Rattle.std.proofs.lemmas.Bool.{cases_Bool, cases_eq, eqb-true, eq-eqb, ne_eqb}
-use Rattle.std.proofs.lemmas.List.Sums.{sum_by-cons, count_by-le-length}
+use Rattle.std.specs.{Result.{IsOk, OnOk}, List.{All, AllByRecursion, count_by}, List.Sorted.{IsPermutation}}
+use Rattle.std.proofs.{lemmas.Bool.{cases_Bool, cases_eq, eqb-true, eq-eqb, ne_eqb}, lemmas.List.Sums.{sum_by-cons, count_by-le-length}}
 use Rattle.std.proofs.lemmas.List.Sorted.{All-permutation, length_permutation, sum_by_popped, sum_by_pushed}
 use Rattle.smp_split.proofs.NumberSums.{weight_true, weight_false}
 use Rattle.smp_minsup.specs.Kept.Ranked.{IsQueue}

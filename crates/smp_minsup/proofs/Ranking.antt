@@ -1,19 +1,12 @@
 -- What the code keeps of two groups, and what a move of a unit changes.
 use Rattle.std.proofs.Common.{◌≡◌, ◌≢◌, ℕ, suc, ◌+◌, ◌-◌, ◌^◌, ◌<◌, ◌≤◌, Bool, true, false, not, cond, nat_lt, List, [], ◌∷◌, ◌++◌, length, get_or, set, arith, refl, sym, ap, ◌∙◌, subst, inl, inr, ◌⊎◌, length-set, length-append}
-use Rattle.std.specs.List.{count_by}
-use Rattle.std.specs.List.Sorted.{IsPermutation}
-use Rattle.std.specs.BinaryHeap.{IsHeap, IsUpperBound}
-use Rattle.std.specs.Ordering.{is_lt}
+use Rattle.std.specs.{List.{count_by}, List.Sorted.{IsPermutation}, BinaryHeap.{IsHeap, IsUpperBound}, Ordering.{is_lt}}
 use Rattle.std.specs.declared.cmp.Reverse.{Reverse}
-use Rattle.std.proofs.lemmas.List.Sums.{sum_by-append}
+use Rattle.std.proofs.{lemmas.List.Sums.{sum_by-append}, lemmas.Grind.{same_number_lists}, lemmas.List.{get_or-set_same, get_or-set_other}}
 use Rattle.std.proofs.lemmas.Bool.{cases_Bool, cases_lt, cases_eq, lt-ltb, le-ltb, eq-eqb, not-true, false_from_ne_true}
-use Rattle.std.proofs.lemmas.Grind.{same_number_lists}
-use Rattle.std.proofs.lemmas.List.{get_or-set_same, get_or-set_other}
-use Rattle.std.proofs.lemmas.List.FromFn.{length-map-range_with_len, get_or-map-range_with_len}
-use Rattle.std.proofs.lemmas.List.Sorted.{length_permutation}
-use Rattle.smp_minsup.specs.Support.{is_larger}
+use Rattle.std.proofs.{lemmas.List.FromFn.{length-map-range_with_len, get_or-map-range_with_len}, lemmas.List.Sorted.{length_permutation}}
+use Rattle.smp_minsup.specs.{Support.{is_larger}, Laws.Ranks.{larger_is}}
 use Rattle.smp_split.proofs.NumberSums.{weight_false}
-use Rattle.smp_minsup.specs.Laws.Ranks.{larger_is}
 use Rattle.smp_minsup.specs.Kept.Ranked.{RankedUnits, IsMostSmall, IsLeastLarge, IsKept, IsQueue, is_in, placed, lowered_by, ranked_of, small_entry, large_entry, by_numer, by_numer_reversed}
 use Rattle.smp_minsup.proofs.Queues.{count-cons, front_known, front_entry, front_group, holds_of, has_some, popped, pushed}
 

@@ -2,16 +2,11 @@
 use Rattle.std.proofs.Common.{◌≡◌, ℕ, ◌-◌, ◌*◌, ◌^◌, ◌≤◌, List, [], ◌∷◌, length, arith, refl, sym, ap, ◌∙◌, inl, inr}
 use Rattle.std.specs.Prelude.{Bool, ◌==◌, if◌then◌else◌, sum}
 use Rattle.std.proofs.lemmas.Bool.{cases_Bool, cases_eq, eqb-false, eqb-true}
-use Rattle.smp_prob.specs.declared.requests.Request.{Request}
-use Rattle.smp_prob.specs.Requests.{IsRequest}
-use Rattle.smp_prob.specs.Shares.{numerators, common_denominator}
+use Rattle.smp_prob.specs.{declared.requests.Request.{Request}, Requests.{IsRequest}, Shares.{numerators, common_denominator}}
 use Rattle.smp_prob.specs.Shares as shares
 use Rattle.smp_prob.proofs.Fractions.{denominator_positive, length-numerators, sum-numerators}
 use Rattle.smp_values.proofs.Requests.{shares_in_range, wider}
-use Rattle.smp_minsup.specs.Method.{started}
-use Rattle.smp_minsup.specs.Support.{IsSupport, draws_of}
-use Rattle.smp_minsup.specs.Kept.Starts.{IsStart}
-use Rattle.smp_minsup.specs.Laws.Splits.{whole_sum, draws_are}
+use Rattle.smp_minsup.specs.{Method.{started}, Support.{IsSupport, draws_of}, Kept.Starts.{IsStart}, Laws.Splits.{whole_sum, draws_are}}
 
 sum_of_none : (xs : List ℕ) → length xs ≡ 0 → sum xs ≡ 0
 sum_of_none [] h = refl

@@ -5,11 +5,9 @@ use Rattle.std.proofs.lemmas.Bool.{cases_Bool, cases_eq, lt-ltb, le-ltb, eqb-fal
 use Rattle.std.proofs.lemmas.List.{get_or-map, length-map}
 use Rattle.std.proofs.lemmas.List.FromFn.{fill_by_all, length-map-range_with_len, get_or-map-range_with_len}
 use Rattle.smp_prob.specs.Shares.{Shares}
-use Rattle.smp_values.specs.Values.{fractional, fractional_count, is_settled}
+use Rattle.smp_values.specs.{Values.{fractional, fractional_count, is_settled}, Largest.{largest_of}}
 use Rattle.smp_split.specs.Trees.{weight_sum, picked}
-use Rattle.smp_values.proofs.Fractional.{fractional_den, fractional_is, not_fractional}
-use Rattle.smp_values.proofs.Units.{none_fractional}
-use Rattle.smp_values.specs.Largest.{largest_of}
+use Rattle.smp_values.proofs.{Fractional.{fractional_den, fractional_is, not_fractional}, Units.{none_fractional}}
 use Rattle.smp_minsup.specs.Support.{IsSupport, is_larger, larger_units, draws_of, is_large, most_small, least_large as least_of, least, lambda, settled, lowered, support_parts}
 use Rattle.smp_split.proofs.NumberSums.{counts, sums_most, sums_less, weight_true, weight_false, counts_found, sum_by-list}
 use Rattle.smp_minsup.specs.Laws.Ranks.{larger_trans, not_itself, larger_units_are}

@@ -1,27 +1,19 @@
 -- The step that is computed has the properties of a step, in whatever the values are kept, where no share is 0, and a direction that fits can move
 -- the values to the ends that are computed.
 use Rattle.std.proofs.Common.{◌≡◌, ◌≢◌, ℕ, ◌<◌, ◌≤◌, ◌&&◌, nat_le, Bool, true, false, ℤ, pos, ◌<ℤ◌, List, take, length, map, arith, refl, sym, ◌∙◌, subst, inl, inr}
-use Rattle.std.proofs.lemmas.Bool.{and_from, and_parts, cases_Bool, le-leb, leb-true, true≢false}
-use Rattle.std.proofs.lemmas.Int.{ints}
+use Rattle.std.proofs.{lemmas.Bool.{and_from, and_parts, cases_Bool, le-leb, leb-true, true≢false}, lemmas.Int.{ints}}
 use Rattle.std.proofs.lemmas.List.{length-map, length-take-le, get_or-take}
 use Rattle.smp_frac.specs.Limits.{most_denominator, most_entry}
-use Rattle.smp_kernel.specs.Vectors.{entry, IsZero}
-use Rattle.smp_kernel.specs.RowReduction.{cut}
-use Rattle.smp_kernel.specs.Searches.{Search, found, none, too_wide}
+use Rattle.smp_kernel.specs.{Vectors.{entry, IsZero}, RowReduction.{cut}, Searches.{Search, found, none, too_wide}}
 use Rattle.smp_kernel.proofs.Reduce.{primitive_part_is, length-primitive_part}
 use Rattle.smp_kernel.proofs.FoundCircuits.{circuit_length, circuit_last, cut_circuit_short}
 use Rattle.smp_prob.specs.Shares.{Shares}
-use Rattle.smp_moves.specs.declared.lines.Ratio.{Ratio}
-use Rattle.smp_moves.specs.Cubes.{Flight}
-use Rattle.smp_moves.specs.Ends.{entries_fit, extent}
+use Rattle.smp_moves.specs.{declared.lines.Ratio.{Ratio}, Cubes.{Flight}, Ends.{entries_fit, extent}, Kept.Searches.{search, search_is}}
 use Rattle.smp_moves.specs.Moves.{Line, Move, Next, Setting, chosen_extent, chosen_line, move, independent, wide, turned}
 use Rattle.smp_moves.specs.Steps.{Finds, FitsAtEnds, FitsOnLine, IsDirection, IsFlown, IsMove, IsNext, IsWide, Stepping, scale_of, scaled, search_wide, direction_wide, move_wide}
 use Rattle.smp_moves.specs.Kept.Computed.{IsKnown, direction, fits, next_along, next_by, next_of}
-use Rattle.smp_moves.specs.Kept.Searches.{search, search_is}
-use Rattle.smp_moves.proofs.Entries.{turned_line}
-use Rattle.smp_moves.proofs.LineEnds.{greatest}
+use Rattle.smp_moves.proofs.{Entries.{turned_line}, LineEnds.{greatest}, OneStep.{Goes, one_direction}}
 use Rattle.smp_moves.proofs.OneStep as steps
-use Rattle.smp_moves.proofs.OneStep.{Goes, one_direction}
 use Rattle.smp_moves.proofs.Products.{HasSome, HaveSome, length-scaled, scaled_some}
 use Rattle.smp_moves.proofs.Weights.{ends_weighed, lowest_weights, within_from, within_to}
 

@@ -1,21 +1,15 @@
 -- Lines over fractional units, and the entries on them.
 use Rattle.std.proofs.Common.{◌≡◌, ◌≢◌, ℕ, zero, suc, ◌+◌, ◌<◌, ◌≤◌, true, List, [], ◌∷◌, ℤ, pos, negsuc, neg_ℤ, map, take, length, get_or, arith, refl, sym, ◌∙◌, inl, inr, ◌⊎◌, le_of_suc-le-suc, suc-le-suc, length-take, get_or-take}
-use Rattle.std.proofs.lemmas.Bool.{cases_eq, eq-eqb, ne_eqb}
-use Rattle.std.proofs.lemmas.Int.{ints}
-use Rattle.std.proofs.lemmas.List.{length-map}
-use Rattle.std.proofs.lemmas.List.Elements.{All-get_or, All-take, filter_passes}
+use Rattle.std.proofs.{lemmas.Bool.{cases_eq, eq-eqb, ne_eqb}, lemmas.Int.{ints}, lemmas.List.{length-map}}
+use Rattle.std.proofs.{lemmas.List.Elements.{All-get_or, All-take, filter_passes}, lemmas.List.Kept.{AllPairs-filter}}
 use Rattle.std.proofs.lemmas.List.FromFn.{length-range_with_len, get_or-range_with_len}
-use Rattle.std.proofs.lemmas.List.Kept.{AllPairs-filter}
 use Rattle.std.specs.List.{AllPairs, Contains, range_with_len}
 use Rattle.smp_kernel.specs.Vectors.{entry, IsZero}
-use Rattle.smp_kernel.proofs.Ring.{zero_or}
-use Rattle.smp_kernel.proofs.Lists.{entry-map, contains_at}
+use Rattle.smp_kernel.proofs.{Ring.{zero_or}, Lists.{entry-map, contains_at}}
 use Rattle.smp_values.specs.Values.{is_fractional, fractional_units}
-use Rattle.smp_values.proofs.Fractional.{fractional_is}
-use Rattle.smp_values.proofs.Units.{fractional_within}
+use Rattle.smp_values.proofs.{Fractional.{fractional_is}, Units.{fractional_within}}
 use Rattle.smp_prob.specs.Shares.{Shares}
-use Rattle.smp_moves.specs.Moves.{Line, IsOrder, IsLine, entry_at, entry_of, turned}
-use Rattle.smp_moves.specs.Ends.{room}
+use Rattle.smp_moves.specs.{Moves.{Line, IsOrder, IsLine, entry_at, entry_of, turned}, Ends.{room}}
 
 -- ---- fractional units, each of them once
 

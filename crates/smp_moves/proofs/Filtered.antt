@@ -1,8 +1,7 @@
 -- Filtered lists of units.
 use Rattle.std.proofs.Common.{◌≡◌, ℕ, suc, ◌+◌, ◌<◌, ◌≤◌, Bool, true, false, List, [], ◌∷◌, ◌++◌, take, set, length, get_or, arith, refl, sym, ap, ◌∙◌, inl, inr, suc-le-suc, append_assoc, length-set}
 use Rattle.std.specs.List.{filter}
-use Rattle.std.proofs.lemmas.Bool.{cases_Bool}
-use Rattle.std.proofs.lemmas.List.{append-nil, take_more_set}
+use Rattle.std.proofs.{lemmas.Bool.{cases_Bool}, lemmas.List.{append-nil, take_more_set}}
 use Rattle.smp_moves.proofs.Places.{rest_all, rest_at, rest_none, rest_of}
 
 -- by two tests, of which the second implies the first

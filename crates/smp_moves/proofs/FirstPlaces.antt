@@ -1,10 +1,8 @@
 -- The first places of an array whose other places are 0.
 use Rattle.std.proofs.Common.{◌≡◌, ℕ, ◌<◌, ◌≤◌, ◌^◌, List, ℤ, pos, take, length, arith, sym, ◌∙◌, inl, inr, length-take, get_or-take}
 use Rattle.std.specs.Int.RustNames.{unsigned_abs}
-use Rattle.std.proofs.lemmas.Bool.{cases_lt}
-use Rattle.std.proofs.lemmas.List.{ext_get_or, get_or_past}
-use Rattle.smp_kernel.specs.Vectors.{entry, IsZero, Within}
-use Rattle.smp_kernel.specs.Reduced.{IsReduced, IsTooLong, primitive_part}
+use Rattle.std.proofs.{lemmas.Bool.{cases_lt}, lemmas.List.{ext_get_or, get_or_past}}
+use Rattle.smp_kernel.specs.{Vectors.{entry, IsZero, Within}, Reduced.{IsReduced, IsTooLong, primitive_part}}
 use Rattle.smp_kernel.proofs.Ring.{positive_some, zero_of_product}
 use Rattle.smp_kernel.proofs.Reduce.{primitive_part_is, length-primitive_part, one_reduced, reduced_within}
 

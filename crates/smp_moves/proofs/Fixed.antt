@@ -1,12 +1,10 @@
 -- The properties of a move fix its numbers: there is one greatest fraction, and one pair of weights.
-use Rattle.std.proofs.Common.{◌≡◌, ℕ, ◌*◌, ◌≤◌, max, arith, ap, ap₂}
-use Rattle.std.proofs.lemmas.Int.{ints}
+use Rattle.std.proofs.{Common.{◌≡◌, ℕ, ◌*◌, ◌≤◌, max, arith, ap, ap₂}, lemmas.Int.{ints}}
 use Rattle.std.specs.Int.{IsGcd}
 use Rattle.smp_frac.specs.Fractions.{AtMost, Same, times, whole}
 use Rattle.smp_frac.proofs.Arithmetic.{cancel}
 use Rattle.smp_prob.specs.Shares.{Shares}
-use Rattle.smp_moves.specs.declared.lines.Ratio.{Ratio}
-use Rattle.smp_moves.specs.Moves.{IsGreatest, Line, fraction_of}
+use Rattle.smp_moves.specs.{declared.lines.Ratio.{Ratio}, Moves.{IsGreatest, Line, fraction_of}}
 use Rattle.smp_moves.proofs.LowestTerms.{same_coprime}
 
 cross_at_most : (r t : Ratio) → 1 ≤ r.den → 1 ≤ t.den → AtMost (fraction_of r) (fraction_of t) → r.num * t.den ≤ t.num * r.den

@@ -1,14 +1,11 @@
 -- The steps of flight and landing by any cube, in whatever the values are kept: their kinds, and how many units are left where the landing began.
-use Rattle.std.proofs.Common.{◌≡◌, ◌≢◌, ℕ, ◌<◌, ◌≤◌, List, [], ◌∷◌, arith, refl, inl, inr}
-use Rattle.std.proofs.lemmas.Bool.{ne_eqb}
+use Rattle.std.proofs.{Common.{◌≡◌, ◌≢◌, ℕ, ◌<◌, ◌≤◌, List, [], ◌∷◌, arith, refl, inl, inr}, lemmas.Bool.{ne_eqb}}
 use Rattle.smp_frac.specs.Fractions.{times, whole}
 use Rattle.smp_frac.proofs.Arithmetic.{plus-zero}
-use Rattle.smp_split.specs.Parts.{moved}
-use Rattle.smp_split.specs.Trees.{Part, EachPart, LawfulParts}
+use Rattle.smp_split.specs.{Parts.{moved}, Trees.{Part, EachPart, LawfulParts}}
 use Rattle.smp_split.specs.declared.kind.Kind.TheVariants as kind
-use Rattle.smp_moves.specs.Balances.{Begins}
+use Rattle.smp_moves.specs.{Balances.{Begins}, Moves.{Next, move, independent, wide}}
 use Rattle.smp_moves.specs.Cubes.{Balancing, Cube, Flight, flying, pairing, flight_kind, flight_parts, kind_by, landed, left_in, parts_by, rank_in, tree_by, values_in}
-use Rattle.smp_moves.specs.Moves.{Next, move, independent, wide}
 
 pub is_independent : (a : Next) → flight_kind a ≡ kind.Drop → a ≡ independent
 is_independent independent k = refl

@@ -1,32 +1,22 @@
 -- A line is followed to the greatest fraction, and the state at its end stands over the least denominator. A unit is settled there.
 use Rattle.std.proofs.Common.{◌≡◌, ℕ, zero, suc, ◌+◌, ◌-◌, ◌*◌, ◌/◌, ◌<◌, ◌≤◌, true, false, List, [], ◌∷◌, ℤ, pos, negsuc, length, get_or, arith, refl, sym, ap, ◌∙◌, subst, inl, inr, ◌⊎◌, mul-pos, eq-zero-or-pos}
-use Rattle.std.specs.Int.{IsGcd}
-use Rattle.std.specs.Int.RustNames.{unsigned_abs}
-use Rattle.std.proofs.lemmas.Bool.{cases_lt}
-use Rattle.std.proofs.lemmas.List.{length-map, get_or-map, get_or_past, get_or_default}
-use Rattle.std.proofs.lemmas.List.FromFn.{get_or-map-range_with_len, length-map-range_with_len}
-use Rattle.std.proofs.lemmas.Nat.Gcd.{dvd_refl, dvd_trans}
+use Rattle.std.specs.{Int.{IsGcd}, Int.RustNames.{unsigned_abs}}
+use Rattle.std.proofs.{lemmas.Bool.{cases_lt}, lemmas.List.{length-map, get_or-map, get_or_past, get_or_default}}
+use Rattle.std.proofs.{lemmas.List.FromFn.{get_or-map-range_with_len, length-map-range_with_len}, lemmas.Nat.Gcd.{dvd_refl, dvd_trans}}
 use Rattle.std.proofs.Math.Nat.{mul-dvd-mul_left, mul-div_cancel', dvd-mul_left, dvd-mul_right_of_dvd, dvd_of_mul-dvd-mul_left, pos_of_dvd_of_pos, le_of_dvd}
 use Prim.Native.Nat.{◌∣◌}
-use Rattle.smp_frac.specs.Fractions.{Same, over}
-use Rattle.smp_frac.proofs.Arithmetic.{cancel, same_trans}
-use Rattle.smp_frac.proofs.Over.{over_same}
-use Rattle.smp_frac.specs.Divisors.{greatest_common_divisor}
-use Rattle.smp_frac.specs.Laws.Gcds.{IsGcd-greatest_common_divisor}
-use Rattle.smp_frac.specs.Laws.Coprime.{coprime_parts, divisor_positive, part_positive}
-use Rattle.smp_frac.specs.Laws.Lowest.{same_value}
+use Rattle.smp_frac.specs.{Fractions.{Same, over}, Divisors.{greatest_common_divisor}, Laws.Gcds.{IsGcd-greatest_common_divisor}}
+use Rattle.smp_frac.proofs.{Arithmetic.{cancel, same_trans}, Over.{over_same}}
+use Rattle.smp_frac.specs.{Laws.Coprime.{coprime_parts, divisor_positive, part_positive}, Laws.Lowest.{same_value}}
 use Rattle.smp_kernel.specs.Vectors.{entry}
 use Rattle.smp_kernel.proofs.Primitive.{dvd_of_primitive, one_from_le}
 use Rattle.smp_values.specs.Values.{is_fractional}
 use Rattle.smp_values.proofs.Fractional.{fractional_den}
-use Rattle.smp_moves.specs.declared.lines.Ratio.{Ratio}
-use Rattle.smp_moves.specs.declared.reaches.Reach.{Reach}
+use Rattle.smp_moves.specs.{declared.lines.Ratio.{Ratio}, declared.reaches.Reach.{Reach}, Kept.Ends.{IsOver, MakesWhole}}
 use Rattle.smp_prob.specs.Shares.{Shares}
 use Rattle.smp_moves.specs.Moves.{Line, IsLine, entry_of, fraction_of, StaysWithin, IsGreatest, IsMoved}
 use Rattle.smp_moves.specs.Ends.{room, reach, lowest, extent, advanced, advanced_numbers, common_factor, end_of}
-use Rattle.smp_moves.specs.Kept.Ends.{IsOver, MakesWhole}
-use Rattle.smp_moves.proofs.Along.{StaysAt, stays_at, furthest, advanced_is}
-use Rattle.smp_moves.proofs.Reaching.{IsReach, is_reach}
+use Rattle.smp_moves.proofs.{Along.{StaysAt, stays_at, furthest, advanced_is}, Reaching.{IsReach, is_reach}}
 use Rattle.smp_moves.proofs.Entries.{order_going, order_within, some_entry, room_some, on_line, off_line, place_or}
 
 -- ---- lowest terms

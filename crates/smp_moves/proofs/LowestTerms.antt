@@ -1,12 +1,10 @@
 -- There is one way to write a fraction in lowest terms.
-use Rattle.std.proofs.Common.{◌≡◌, ℕ, ◌*◌, ◌/◌, ◌≤◌, arith, mul-pos, sym, ap, ap₂, ◌∙◌, subst}
+use Rattle.std.proofs.{Common.{◌≡◌, ℕ, ◌*◌, ◌/◌, ◌≤◌, arith, mul-pos, sym, ap, ap₂, ◌∙◌, subst}, Math.Nat.{dvd-mul_left}}
 use Rattle.std.specs.Int.{IsGcd}
-use Rattle.std.proofs.Math.Nat.{dvd-mul_left}
 use Rattle.std.proofs.lemmas.Nat.Gcd.{IsGcd-swap, dvd_antisymm}
 use Prim.Native.Nat.{◌∣◌}
 use Rattle.smp_frac.proofs.Arithmetic.{cancel}
-use Rattle.smp_frac.specs.Laws.Coprime.{dvd_of_coprime, part_positive}
-use Rattle.smp_frac.specs.Laws.Lowest.{same_value}
+use Rattle.smp_frac.specs.{Laws.Coprime.{dvd_of_coprime, part_positive}, Laws.Lowest.{same_value}}
 use Rattle.smp_moves.specs.Ends.{lowest}
 use Rattle.smp_moves.proofs.LineEnds.{lowest_is}
 

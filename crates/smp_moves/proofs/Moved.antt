@@ -1,22 +1,15 @@
 -- The values at the end of a line lie from 0 to 1, and fewer of them are fractional.
 use Rattle.std.proofs.Common.{◌≡◌, ℕ, zero, suc, ◌+◌, ◌*◌, ◌<◌, ◌≤◌, ◌^◌, Bool, true, false, cond, List, [], ◌∷◌, length, get_or, pos, arith, refl, sym, ◌∙◌, subst, inl, inr, le_of_suc-le-suc, eq-zero-or-pos, mul-pos}
 use Rattle.std.specs.List.{count_by, Contains}
-use Rattle.std.proofs.lemmas.Bool.{cases_Bool, cases_lt}
-use Rattle.std.proofs.lemmas.List.Sums.{sum_by-cons}
-use Rattle.std.proofs.Math.Nat.{mul-le-mul_right, dvd-mul_right}
+use Rattle.std.proofs.{lemmas.Bool.{cases_Bool, cases_lt}, lemmas.List.Sums.{sum_by-cons}, Math.Nat.{mul-le-mul_right, dvd-mul_right}}
 use Prim.Native.Nat.{◌∣◌}
 use Rattle.smp_frac.specs.Fractions.{Same}
-use Rattle.smp_frac.proofs.Arithmetic.{same_refl, same_trans, plus_same, plus-zero, times-zero}
+use Rattle.smp_frac.proofs.{Arithmetic.{same_refl, same_trans, plus_same, plus-zero, times-zero}, Signs.{over_cross, over_at_most_one}}
 use Rattle.smp_prob.specs.Shares.{Shares}
 use Rattle.smp_values.specs.Values.{IsValues, fractional, fractional_count, is_fractional, value_at}
-use Rattle.smp_values.proofs.Fractional.{fractional_is, is_fractional-between}
-use Rattle.smp_values.proofs.Units.{fractional_within}
-use Rattle.smp_moves.specs.Moves.{Line, IsLine, IsMoved, along, entry_of, fraction_of}
-use Rattle.smp_moves.specs.Ends.{extent, end_of}
-use Rattle.smp_moves.specs.Kept.Ends.{IsOver}
-use Rattle.smp_frac.proofs.Signs.{over_cross, over_at_most_one}
-use Rattle.smp_moves.proofs.Entries.{order_going, off_line, place_or}
-use Rattle.smp_moves.proofs.LineEnds.{moved, greatest, settled_unit, first_unit}
+use Rattle.smp_values.proofs.{Fractional.{fractional_is, is_fractional-between}, Units.{fractional_within}}
+use Rattle.smp_moves.specs.{Moves.{Line, IsLine, IsMoved, along, entry_of, fraction_of}, Ends.{extent, end_of}, Kept.Ends.{IsOver}}
+use Rattle.smp_moves.proofs.{Entries.{order_going, off_line, place_or}, LineEnds.{moved, greatest, settled_unit, first_unit}}
 
 -- a value that did not change
 pub same_fractional : (a c b d : ℕ) → 1 ≤ c → b * c ≡ a * d → fractional d b ≡ true → fractional c a ≡ true

@@ -1,11 +1,9 @@
 -- The least common multiple of some numbers: each of them divides it, and it divides each number that they all divide.
 use Rattle.std.proofs.Common.{ℕ, zero, suc, ◌<◌, ◌≤◌, List, [], ◌∷◌, ◌++◌, length, get_or, map, arith, le_of_suc-le-suc}
 use Rattle.std.specs.Prelude.{fold}
-use Rattle.std.proofs.lemmas.Nat.Gcd.{dvd_refl, dvd_trans}
-use Rattle.std.proofs.Math.Nat.{one-dvd, le_of_dvd}
+use Rattle.std.proofs.{lemmas.Nat.Gcd.{dvd_refl, dvd_trans}, Math.Nat.{one-dvd, le_of_dvd}}
 use Prim.Native.Nat.{◌∣◌}
-use Rattle.smp_frac.specs.Divisors.{greatest_common_divisor, IsCommonMultiple, IsLeastMultiple}
-use Rattle.smp_frac.specs.Laws.Coprime.{IsLeastMultiple-from_gcd}
+use Rattle.smp_frac.specs.{Divisors.{greatest_common_divisor, IsCommonMultiple, IsLeastMultiple}, Laws.Coprime.{IsLeastMultiple-from_gcd}}
 use Rattle.smp_frac.specs.Laws.Gcds.{IsGcd-greatest_common_divisor}
 use Rattle.smp_prob.specs.Given.{least_multiple}
 use Rattle.smp_moves.specs.Steps.{common_multiple}

@@ -1,26 +1,16 @@
 -- The properties of a step fix it, in whatever the values are kept, where there is one state at the end of a line: there is one direction, one
 -- greatest fraction and one pair of weights, and so one step.
 use Rattle.std.proofs.Common.{◌≡◌, ℕ, ◌*◌, ◌<◌, ◌≤◌, pos, List, ℤ, length, map, arith, refl, sym, ap, ap₂, ◌∙◌, subst, inl, inr, mul-pos, eq-zero-or-pos}
-use Rattle.std.proofs.lemmas.List.{ext_get_or}
-use Rattle.std.proofs.Math.Nat.{dvd-zero, le_of_dvd}
-use Rattle.std.proofs.lemmas.Nat.Gcd.{IsGcd-swap}
+use Rattle.std.proofs.{lemmas.List.{ext_get_or}, Math.Nat.{dvd-zero, le_of_dvd}, lemmas.Nat.Gcd.{IsGcd-swap}}
 use Rattle.std.specs.Int.{IsGcd}
 use Prim.Native.Nat.{◌∣◌}
-use Rattle.smp_kernel.specs.RowReduction.{cut}
-use Rattle.smp_kernel.specs.Reduced.{IsReduced}
-use Rattle.smp_kernel.specs.Searches.{Search, found, none, too_wide}
-use Rattle.smp_kernel.proofs.Reduce.{one_reduced}
-use Rattle.smp_kernel.proofs.SearchLaw.{one_answer}
+use Rattle.smp_kernel.specs.{RowReduction.{cut}, Reduced.{IsReduced}, Searches.{Search, found, none, too_wide}}
+use Rattle.smp_kernel.proofs.{Reduce.{one_reduced}, SearchLaw.{one_answer}}
 use Rattle.smp_prob.specs.Shares.{Shares}
-use Rattle.smp_moves.specs.declared.lines.Ratio.{Ratio}
-use Rattle.smp_moves.specs.Moves.{Line, Move, Setting, IsLine, Next, independent, move, turned, wide}
-use Rattle.smp_moves.specs.Cubes.{Flight}
-use Rattle.smp_moves.specs.Ends.{extent}
+use Rattle.smp_moves.specs.{declared.lines.Ratio.{Ratio}, Moves.{Line, Move, Setting, IsLine, Next, independent, move, turned, wide}}
+use Rattle.smp_moves.specs.{Cubes.{Flight}, Ends.{extent}, Kept.Ends.{IsOver}}
 use Rattle.smp_moves.specs.Steps.{Finds, FitsAtEnds, IsDirection, IsFlown, IsMove, FitsOnLine, IsNext, IsWide, scale_of, scaled}
-use Rattle.smp_moves.specs.Kept.Ends.{IsOver}
-use Rattle.smp_moves.proofs.Entries.{turned_line}
-use Rattle.smp_moves.proofs.Fixed.{one_greatest, one_weights, weights_cross}
-use Rattle.smp_moves.proofs.LineEnds.{extent_some, greatest}
+use Rattle.smp_moves.proofs.{Entries.{turned_line}, Fixed.{one_greatest, one_weights, weights_cross}, LineEnds.{extent_some, greatest}}
 
 -- a line over values that it can move
 pub record Goes (s : Shares) (line : Line) : Type 0 where

@@ -1,13 +1,10 @@
 -- A method that owes what a balanced selection owes is balanced.
 use Rattle.std.proofs.Common.{◌≡◌, ◌≢◌, ℕ, ◌<◌, ◌≤◌, true, false, cond, List, [], ◌∷◌, arith, refl, sym, ap, ◌∙◌, subst, inl, inr, ◌⊎◌}
 use Rattle.std.proofs.lemmas.Bool.{cases_Bool}
-use Rattle.smp_frac.specs.Fractions.{Fraction, Same, whole, times}
+use Rattle.smp_frac.specs.{Fractions.{Fraction, Same, whole, times}, Bounds.{absolute, DifferByAtMost}}
 use Rattle.smp_frac.proofs.Arithmetic.{same_refl, same_sym, same_trans, times_same}
-use Rattle.smp_frac.specs.Bounds.{absolute, DifferByAtMost}
 use Rattle.smp_frac.proofs.Bounds.{term_above, differ_same, differ_by_same, differ_sum}
-use Rattle.smp_split.specs.Trees.{EachPart, picked}
-use Rattle.smp_split.specs.Paths.{Entry, IsStep, Leads}
-use Rattle.smp_split.specs.declared.kind.Kind.{Kind}
+use Rattle.smp_split.specs.{Trees.{EachPart, picked}, Paths.{Entry, IsStep, Leads}, declared.kind.Kind.{Kind}}
 use Rattle.smp_split.specs.declared.kind.Kind.TheVariants as kind
 use Rattle.smp_split.specs.Laws.Means.{selected_sum_is_value_sum}
 use Rattle.smp_split.specs.Laws.Steps.{picked_is_part, picked_belongs, leads_keep, leads_belong, value_within}

@@ -6,10 +6,8 @@ use Prim.Native.Nat.{◌∣◌}
 use Rattle.smp_frac.specs.Laws.Coprime.{part_positive}
 use Rattle.smp_kernel.specs.Vectors.{entry}
 use Rattle.smp_kernel.proofs.Ring.{abs_zero}
-use Rattle.smp_moves.specs.declared.lines.Ratio.{Ratio}
-use Rattle.smp_moves.specs.Steps.{product, products, scale_of, scaled, signed}
-use Rattle.smp_moves.proofs.LineEnds.{lowest_is}
-use Rattle.smp_moves.proofs.Multiples.{AllSome, AllDivide, multiple_some, multiple_each}
+use Rattle.smp_moves.specs.{declared.lines.Ratio.{Ratio}, Steps.{product, products, scale_of, scaled, signed}}
+use Rattle.smp_moves.proofs.{LineEnds.{lowest_is}, Multiples.{AllSome, AllDivide, multiple_some, multiple_each}}
 
 -- ---- a number with the sign of a factor
 pub signed_abs : (w : ℤ) (m : ℕ) → unsigned_abs (signed w m) ≡ m

@@ -1,19 +1,13 @@
 -- The numbers of a line that fits its gate: they fit the code's numbers, no numerator falls below 0, and the bound is below 2^126.
 use Rattle.std.proofs.Common.{◌≡◌, ℕ, ◌+◌, ◌*◌, ◌<◌, ◌≤◌, ◌^◌, List, ℤ, pos, negsuc, neg_ℤ, ◌<ℤ◌, map, take, length, get_or, arith, refl, ap, subst, inl, inr, length-take, get_or-take}
-use Rattle.std.proofs.Math.Nat.{mul-le-mul, div-le_self}
-use Rattle.std.proofs.lemmas.Bool.{cases_lt}
-use Rattle.std.proofs.lemmas.Int.{ints}
-use Rattle.std.proofs.lemmas.List.{get_or_past, length-map}
+use Rattle.std.proofs.{Math.Nat.{mul-le-mul, div-le_self}, lemmas.Bool.{cases_lt}, lemmas.Int.{ints}, lemmas.List.{get_or_past, length-map}}
 use Rattle.std.proofs.lemmas.List.Elements.{All-from_get_or}
 use Rattle.std.specs.Int.RustNames.{unsigned_abs}
 use Rattle.smp_frac.specs.Divisors.{greatest_common_divisor}
 use Rattle.smp_kernel.specs.Vectors.{entry, Within}
 use Rattle.smp_prob.specs.Shares.{Shares}
-use Rattle.smp_moves.specs.Moves.{Line, IsLine, entry_of, turned}
-use Rattle.smp_moves.specs.Ends.{room, reach, lowest, move_along}
-use Rattle.smp_moves.specs.Kept.Ends.{CanAdvance, IsOver}
-use Rattle.smp_moves.proofs.Entries.{entry_turned, on_line, off_line, place_or, turned_line}
-use Rattle.smp_moves.proofs.LineEnds.{reached}
+use Rattle.smp_moves.specs.{Moves.{Line, IsLine, entry_of, turned}, Ends.{room, reach, lowest, move_along}, Kept.Ends.{CanAdvance, IsOver}}
+use Rattle.smp_moves.proofs.{Entries.{entry_turned, on_line, off_line, place_or, turned_line}, LineEnds.{reached}}
 
 room_most : (a d : ℕ) (e : ℤ) → a ≤ d → room d a e ≤ d
 room_most a d (pos n) h = omega arith

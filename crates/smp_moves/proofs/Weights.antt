@@ -1,20 +1,15 @@
 -- The weights of both ends of a line, and entries within a limit.
 use Rattle.std.proofs.Common.{◌≡◌, ℕ, ◌*◌, ◌≤◌, max, true, nat_le, List, ℤ, pos, arith, ap, inl, inr, mul-pos, eq-zero-or-pos}
-use Rattle.std.specs.List.{list_all}
-use Rattle.std.specs.Int.RustNames.{unsigned_abs}
-use Rattle.std.proofs.lemmas.Bool.{leb-true, le-leb}
-use Rattle.std.proofs.lemmas.List.Elements.{All-get_or, All-from_get_or}
+use Rattle.std.specs.{List.{list_all}, Int.RustNames.{unsigned_abs}}
+use Rattle.std.proofs.{lemmas.Bool.{leb-true, le-leb}, lemmas.List.Elements.{All-get_or, All-from_get_or}}
 use Rattle.std.proofs.lemmas.List.Sums.{AllPass-from_list_all, list_all-from_AllPass}
 use Rattle.smp_frac.specs.Fractions.{Same, whole, times}
 use Rattle.smp_frac.proofs.Arithmetic.{cancel}
 use Rattle.smp_kernel.specs.Vectors.{entry, Within}
-use Rattle.smp_moves.specs.declared.lines.Ratio.{Ratio}
+use Rattle.smp_moves.specs.{declared.lines.Ratio.{Ratio}, Moves.{Line, IsLine, fraction_of, turned}, Kept.Ends.{IsOver}}
 use Rattle.smp_prob.specs.Shares.{Shares}
-use Rattle.smp_moves.specs.Moves.{Line, IsLine, fraction_of, turned}
 use Rattle.smp_moves.specs.Ends.{reach, extent, weights, move_along}
-use Rattle.smp_moves.specs.Kept.Ends.{IsOver}
-use Rattle.smp_moves.proofs.Entries.{turned_line}
-use Rattle.smp_moves.proofs.LineEnds.{IsLowest, lowest_is, reached, extent_is}
+use Rattle.smp_moves.proofs.{Entries.{turned_line}, LineEnds.{IsLowest, lowest_is, reached, extent_is}}
 
 pub weights_at : (c p q m n N U M V w x : ℕ) → 1 ≤ c → 1 ≤ U → 1 ≤ V → N * q ≡ p * (c * U) → M * n ≡ m * (c * V) → M * U * x ≡ w * (N * V) → w * (p * n) ≡ x * (m * q)
 weights_at c p q m n N U M V w x pc pu pv hp hm hw =

@@ -3,10 +3,8 @@ use Rattle.std.proofs.Common.{◌≡◌, ◌≢◌, ℕ, suc, ◌+◌, ◌<◌, 
 use Rattle.std.specs.List.Sorted.{IsPermutation}
 use Rattle.std.proofs.lemmas.List.{append_assoc, get_or-set_same, get_or-set_other, length-append}
 use Rattle.std.proofs.lemmas.List.Sorted.{IsPermutation-append_left, IsPermutation-append_right, IsPermutation-trans, length_permutation}
-use Rattle.smp_near.specs.Kept.Regions.{IsIn}
-use Rattle.smp_near.specs.Kept.Trees.{IsEnclosed}
+use Rattle.smp_near.specs.{Kept.Regions.{IsIn}, Kept.Trees.{IsEnclosed}, declared.region.Region.{Region}}
 use Rattle.smp_places.specs.Trees.{middle, EachRoot}
-use Rattle.smp_near.specs.declared.region.Region.{Region}
 use Rattle.smp_places.proofs.Roots.{from_parts, each_root_as}
 
 -- what lies behind a root is less than all

@@ -1,7 +1,6 @@
 -- How many points of a tree are living.
 use Rattle.std.proofs.Common.{◌≡◌, ◌≢◌, ℕ, zero, suc, ◌+◌, ◌-◌, ◌<◌, ◌≤◌, Bool, true, false, List, length, get_or, set, refl, ap, inl, inr, ◌⊎◌, add-one, arith}
-use Rattle.std.proofs.lemmas.Bool.{cases_Bool, cases_lt, both_ways}
-use Rattle.std.proofs.lemmas.List.{get_or-set_same, get_or-set_other, get_or_past}
+use Rattle.std.proofs.{lemmas.Bool.{cases_Bool, cases_lt, both_ways}, lemmas.List.{get_or-set_same, get_or-set_other, get_or_past}}
 use Rattle.smp_near.specs.Kept.Trees.{IsCounted, lives_at, living_before, one_if}
 use Rattle.smp_places.specs.Trees.{middle, EachRoot}
 use Rattle.smp_places.proofs.Roots.{from_parts, each_root_as, first_half, second_half, root_of_tree}

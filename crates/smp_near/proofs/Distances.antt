@@ -1,10 +1,8 @@
 -- The squared distance of two points, coordinate by coordinate.
 use Rattle.std.proofs.Common.{◌≡◌, ℕ, zero, suc, ◌+◌, ◌*◌, ◌<◌, ◌≤◌, ℤ, pos, List, [], ◌∷◌, length, get_or, drop, refl, inl, inr, arith}
 use Rattle.std.specs.Prelude.{◌-ℤ◌, ◌≤ℤ◌, unsigned_abs, int_lt}
-use Rattle.std.proofs.lemmas.Bool.{cases_Bool}
-use Rattle.std.proofs.lemmas.Int.{ints}
-use Rattle.smp_near.specs.Kept.Regions.{IsWithin, region_distance, squared_gap}
-use Rattle.smp_near.specs.Nearest.{squared_distance}
+use Rattle.std.proofs.{lemmas.Bool.{cases_Bool}, lemmas.Int.{ints}}
+use Rattle.smp_near.specs.{Kept.Regions.{IsWithin, region_distance, squared_gap}, Nearest.{squared_distance}}
 
 -- the square at a place, and the distance of what is behind it
 pub squared_distance-drop : (xs ys : List ℤ) (place : ℕ) → place < length xs → place < length ys → squared_distance (drop place xs) (drop place ys) ≡ unsigned_abs (get_or xs place (pos 0) -ℤ get_or ys place (pos 0)) * unsigned_abs (get_or xs place (pos 0) -ℤ get_or ys place (pos 0)) + squared_distance (drop (place + 1) xs) (drop (place + 1) ys)

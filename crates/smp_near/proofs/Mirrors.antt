@@ -1,11 +1,8 @@
 -- An order of the points, and the place of each of them in it.
-use Rattle.std.proofs.Common.{◌≡◌, ◌≢◌, ℕ, ◌+◌, ◌<◌, List, length, get_or, set, ◌∙◌, sym, refl, inl, inr, arith}
-use Rattle.std.proofs.Math.Dec.{eqb}
-use Rattle.std.specs.List.{IsDistinct, range_with_len}
-use Rattle.std.specs.List.Sorted.{IsPermutation}
+use Rattle.std.proofs.{Common.{◌≡◌, ◌≢◌, ℕ, ◌+◌, ◌<◌, List, length, get_or, set, ◌∙◌, sym, refl, inl, inr, arith}, Math.Dec.{eqb}}
+use Rattle.std.specs.{List.{IsDistinct, range_with_len}, List.Sorted.{IsPermutation}}
 use Rattle.std.proofs.lemmas.Bool.{both_ways, cases_eq, cases_lt, cases_order, eq-eqb, ne_eqb}
-use Rattle.std.proofs.lemmas.List.{get_or-set_same, get_or-set_other}
-use Rattle.std.proofs.lemmas.List.FromFn.{length-range_with_len, get_or-range_with_len}
+use Rattle.std.proofs.{lemmas.List.{get_or-set_same, get_or-set_other}, lemmas.List.FromFn.{length-range_with_len, get_or-range_with_len}}
 use Rattle.std.proofs.lemmas.Map.Keys.{apart_from_distinct, IsDistinct-from_apart, IsDistinct-IsPermutation}
 use Rattle.smp_places.proofs.Orders.{order_below, order_long, order_reaches}
 use Rattle.smp_near.specs.Kept.Trees.{IsMirrored}

@@ -2,8 +2,7 @@
 use Rattle.std.proofs.Common.{zero, suc, [], ◌∷◌, refl, arith}
 use Rattle.std.specs.Fmt.{digits}
 use Rattle.smp_frac.specs.Divisors.{greatest_common_divisor}
-use Rattle.smp_split.specs.Paths.{Leads}
-use Rattle.smp_split.specs.Trees.{LawfulEnd}
+use Rattle.smp_split.specs.{Paths.{Leads}, Trees.{LawfulEnd}}
 use Rattle.smp_pivotal.specs.Four.{AreFourFractions, AreFourValues, IsFourTree, first_two, leaf, path, start, state, tree}
 
 leaf_ends : LawfulEnd tree leaf

@@ -1,12 +1,10 @@
 -- One pass over the numerators that takes a systematic sample.
 use Rattle.std.proofs.Common.{◌≡◌, ◌≢◌, ℕ, ◌+◌, ◌-◌, ◌<◌, ◌≤◌, Bool, true, false, cond, nat_lt, List, length, get_or, arith, refl, sym, ap, ◌∙◌, inl, inr, length-set}
-use Rattle.std.proofs.lemmas.Bool.{cases_eq, lt-ltb, le-ltb}
-use Rattle.std.proofs.lemmas.List.{get_or-set_same, get_or-set_other}
+use Rattle.std.proofs.{lemmas.Bool.{cases_eq, lt-ltb, le-ltb}, lemmas.List.{get_or-set_same, get_or-set_other}}
 use Rattle.std.proofs.lemmas.List.FromFn.{fill_by_all}
 use Rattle.smp_prob.specs.Shares.{Shares}
 use Rattle.smp_values.specs.Values.{with_one}
-use Rattle.smp_pivotal.specs.Systematic.{cumulated, takes, sampled}
-use Rattle.smp_pivotal.specs.Laws.Points.{IsGap, meets_is, next_gap}
+use Rattle.smp_pivotal.specs.{Systematic.{cumulated, takes, sampled}, Laws.Points.{IsGap, meets_is, next_gap}}
 use Rattle.smp_pivotal.specs.Laws.SystematicSplits.{cumulated_next}
 
 -- the values after a draw, as far as the pass has come, and how far the next point lies from there

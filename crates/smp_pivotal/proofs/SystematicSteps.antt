@@ -1,22 +1,14 @@
 -- The steps of a systematic selection.
 use Rattle.std.proofs.Common.{◌≡◌, ℕ, ◌+◌, ◌<◌, ◌≤◌, Bool, true, false, cond, nat_eq, length, get_or, arith, refl, ap, ◌∙◌}
-use Rattle.std.proofs.lemmas.Bool.{eq-eqb, ne_eqb}
-use Rattle.std.proofs.lemmas.Bool.Decides.{Decides-at}
-use Rattle.std.specs.Bool.{Decides}
-use Rattle.std.proofs.lemmas.List.FromFn.{get_or-range_with_len}
-use Rattle.std.specs.List.{count_by, range_with_len}
-use Rattle.smp_split.specs.Counts.{draws_selecting, selected_after}
-use Rattle.smp_split.specs.Trees.{weight_sum, picked}
-use Rattle.smp_split.specs.Orders.{Placing, Ordered, in_order, frame_order}
-use Rattle.smp_split.proofs.Orders.{inner_bound, inner_picked, place_in}
-use Rattle.smp_split.specs.Laws.Parts.{weight_sum-equal, picked-equal}
-use Rattle.smp_split.proofs.NumberSums.{sums_same, sum_by-range}
+use Rattle.std.proofs.{lemmas.Bool.{eq-eqb, ne_eqb}, lemmas.Bool.Decides.{Decides-at}, lemmas.List.FromFn.{get_or-range_with_len}}
+use Rattle.std.specs.{Bool.{Decides}, List.{count_by, range_with_len}}
+use Rattle.smp_split.specs.{Counts.{draws_selecting, selected_after}, Trees.{weight_sum, picked}}
+use Rattle.smp_split.specs.{Orders.{Placing, Ordered, in_order, frame_order}, Laws.Parts.{weight_sum-equal, picked-equal}}
+use Rattle.smp_split.proofs.{Orders.{inner_bound, inner_picked, place_in}, NumberSums.{sums_same, sum_by-range}}
 use Rattle.smp_prob.specs.Shares.{Shares}
-use Rattle.smp_values.specs.InOrder.{places_tree}
-use Rattle.smp_values.specs.Values.{exchanged_values}
+use Rattle.smp_values.specs.{InOrder.{places_tree}, Values.{exchanged_values}}
 use Rattle.smp_pivotal.specs.Systematic.{IsSystematic, PointsAt, cumulated, takes, sampled, place_of, numerator_of, systematic_rule, systematic_tree}
-use Rattle.smp_pivotal.specs.Laws.Points.{meets_decides}
-use Rattle.smp_pivotal.specs.Laws.SystematicSplits.{sampled_at, draws_taking}
+use Rattle.smp_pivotal.specs.{Laws.Points.{meets_decides}, Laws.SystematicSplits.{sampled_at, draws_taking}}
 
 either_is : (den : ℕ) (b : Bool) → 1 ≤ den → nat_eq (cond b den 0) den ≡ b
 either_is den true one = eq-eqb den den refl

@@ -1,12 +1,8 @@
 -- The sums of the amounts before each place, at the roots of a tree.
 use Rattle.std.proofs.Common.{◌≡◌, ◌≢◌, ℕ, zero, suc, ◌+◌, ◌-◌, ◌*◌, ◌<◌, ◌≤◌, List, [], ◌∷◌, length, get_or, set, refl, ap, inl, inr, ◌⊎◌, arith}
-use Rattle.std.proofs.Math.Nat.{mul-le-mul_left}
+use Rattle.std.proofs.{Math.Nat.{mul-le-mul_left}, lemmas.List.{get_or-set_same, get_or-set_other}, lemmas.List.Sums.{sum_by-cons}}
 use Rattle.std.specs.List.{sum}
-use Rattle.std.proofs.lemmas.List.{get_or-set_same, get_or-set_other}
-use Rattle.std.proofs.lemmas.List.Sums.{sum_by-cons}
-use Rattle.smp_places.specs.Kept.{IsSummed}
-use Rattle.smp_places.specs.Amounts.{sum_before, weighted_before}
-use Rattle.smp_places.specs.Trees.{EachRoot, middle}
+use Rattle.smp_places.specs.{Kept.{IsSummed}, Amounts.{sum_before, weighted_before}, Trees.{EachRoot, middle}}
 use Rattle.smp_places.proofs.Roots.{each_root_as, from_parts, root_of_tree}
 
 pub before_none : (amounts : List ℕ) → sum_before amounts 0 ≡ 0

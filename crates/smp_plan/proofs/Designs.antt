@@ -1,26 +1,15 @@
 -- The plan of a design can be drawn, and the design of `quick` is one.
 use Rattle.std.proofs.Common.{◌≡◌, ℕ, ◌+◌, ◌≤◌, Bool, true, false, true≢false, List, [], ◌∷◌, length, Option, Some, None, IfSome, arith, refl, sym, subst, ◌∙◌}
-use Rattle.std.specs.Prelude.{OnSome, nat_lt, option_map}
-use Rattle.std.proofs.lemmas.Bool.{ltb-false}
-use Rattle.std.proofs.lemmas.List.{length-map}
-use Rattle.std.proofs.lemmas.List.FromFn.{length-range_with_len}
+use Rattle.std.specs.{Prelude.{OnSome, nat_lt, option_map}, List.Sorted.{IsStrictlySortedBy}}
+use Rattle.std.proofs.{lemmas.Bool.{ltb-false}, lemmas.List.{length-map}, lemmas.List.FromFn.{length-range_with_len}}
 use Rattle.smp_frame.specs.declared.frame.Unit as unit
-use Rattle.std.specs.List.Sorted.{IsStrictlySortedBy}
 use Rattle.smp_frac.specs.Limits.{most_rows}
-use Rattle.smp_design.specs.Bounds.{Ascend, IsDesign}
-use Rattle.smp_design.specs.Words.{row, draws_together, in_second}
+use Rattle.smp_design.specs.{Bounds.{Ascend, IsDesign}, Words.{row, draws_together, in_second}, declared.design.Design.{Design}}
 use Rattle.smp_design.proofs.Rows.{bare}
-use Rattle.smp_design.specs.declared.design.Design.{Design}
-use Rattle.smp_design.specs.declared.design.Second.{Second}
-use Rattle.smp_design.specs.declared.method.Method.{Method}
-use Rattle.smp_design.specs.declared.method.Method.TheVariants.{Pivotal}
-use Rattle.smp_strata.specs.Bounds.{IsPlan}
-use Rattle.smp_strata.specs.Clusters.{strata_numbers, stratum_names}
-use Rattle.smp_strata.specs.Misfits.{misfit_of, row_limit_by}
-use Rattle.smp_strata.specs.Plans.{Plan, strata_plan, stratum_of}
-use Rattle.smp_strata.specs.declared.misfit.Misfit.TheVariants.{RowLimit}
-use Rattle.smp_strata.proofs.Founds.{when_false}
-use Rattle.smp_strata.proofs.MisfitOrder.{rows_fit}
+use Rattle.smp_design.specs.{declared.design.Second.{Second}, declared.method.Method.{Method}, declared.method.Method.TheVariants.{Pivotal}}
+use Rattle.smp_strata.specs.{Bounds.{IsPlan}, Clusters.{strata_numbers, stratum_names}, Misfits.{misfit_of, row_limit_by}}
+use Rattle.smp_strata.specs.{Plans.{Plan, strata_plan, stratum_of}, declared.misfit.Misfit.TheVariants.{RowLimit}}
+use Rattle.smp_strata.proofs.{Founds.{when_false}, MisfitOrder.{rows_fit}}
 use Rattle.smp_twostage.specs.Plans.{CanBeDrawn, IsTogether, TakesRows}
 use Rattle.smp_plan.specs.Plans.{quick_design}
 

@@ -3,28 +3,22 @@ use Rattle.std.proofs.Common.{◌≡◌, ℕ, true, false, length, List, [], Res
 use Rattle.smp_io.specs.Store.{Files}
 use Rattle.smp_io.proofs.Asked.{only_none}
 use Rattle.smp_log.specs.Heads.{head_of}
-use Rattle.smp_design.specs.Designs.{design_of}
-use Rattle.smp_design.specs.Faults.{is_memory}
-use Rattle.smp_design.specs.declared.design.Design.{Design}
+use Rattle.smp_design.specs.{Designs.{design_of}, Faults.{is_memory}, declared.design.Design.{Design}}
 use Rattle.smp_design.specs.declared.fault.DesignFault.{DesignFault}
 use Rattle.smp_design.specs.declared.fault.DesignFault.TheVariants as design_fault
-use Rattle.smp_status.specs.declared.status.Status.{Status}
+use Rattle.smp_status.specs.{declared.status.Status.{Status}, Codes.{Class, IsRefusal, IsNoMemory, class_of, design_status, misfit_status}}
 use Rattle.smp_status.specs.declared.status.Status.TheVariants as status
 use Rattle.smp_frame.specs.declared.frame.Unit as unit
 use Rattle.smp_frame.specs.Frames.{frame_of}
 use Rattle.smp_strata.specs.declared.misfit.Misfit.{Misfit}
 use Rattle.smp_strata.specs.declared.misfit.Misfit.TheVariants as misfits
-use Rattle.smp_plan.specs.Plans.{Survey}
+use Rattle.smp_plan.specs.{Plans.{Survey}, Stops.{Stop, Refused, without}, Planned.{GivesPlan}}
 use Rattle.smp_plan.specs.Inputs.{DesignSource, Held, HeldForJoint, Given, Made, FrameSource, FrameHeld, FrameForJoint, FrameMade, is_large, design_names, frame_names, input_names, ReadDesign, frame_content, design_stage, frame_stage, plan_of, plan_stage}
 use Rattle.smp_frac.specs.Memory as memory
 use Rattle.smp_frac.specs.Faults.{◌>>=◌}
-use Rattle.smp_plan.specs.Stops.{Stop, Refused, without}
-use Rattle.smp_status.specs.Codes.{Class, IsRefusal, IsNoMemory, class_of, design_status, misfit_status}
 use Rattle.smp_plan.specs.Reads.{Told, Sees, Follows, IsErrorOf, IsCaused, ReadCause, Reads}
-use Rattle.smp_plan.specs.Planned.{GivesPlan}
 use Rattle.smp_status.specs.Reports.{IsOfInputs}
-use Rattle.smp_plan.proofs.Steps.{Ignores, bind_same, read_for}
-use Rattle.smp_plan.proofs.Names.{contains_left, contains_right, Apart}
+use Rattle.smp_plan.proofs.{Steps.{Ignores, bind_same, read_for}, Names.{contains_left, contains_right, Apart}}
 
 pub design_ignores : (source : DesignSource) → Ignores (design_stage source) (design_names source)
 unfolding design_stage

@@ -1,10 +1,7 @@
 -- Names in a list.
 use Rattle.std.proofs.Common.{◌≡◌, ℕ, suc, zero, Bool, true, false, not, ◌||◌, List, [], ◌∷◌, ◌++◌, refl, sym, subst, ◌∙◌, inl, inr, arith, true≢false}
-use Rattle.std.specs.Prelude.{Contains}
-use Rattle.std.specs.List.{list_any}
-use Rattle.std.specs.Str.{bytes_eq}
-use Rattle.std.proofs.lemmas.Bool.{cases_Bool, and_parts}
-use Rattle.std.proofs.lemmas.Slice.Eq.{bytes_eq-Decides}
+use Rattle.std.specs.{Prelude.{Contains}, List.{list_any}, Str.{bytes_eq}}
+use Rattle.std.proofs.{lemmas.Bool.{cases_Bool, and_parts}, lemmas.Slice.Eq.{bytes_eq-Decides}}
 use Rattle.smp_words.specs.Words.{all_distinct}
 
 pub contains_left : (xs ys : List (List ℕ)) (name : List ℕ) → Contains xs name → Contains (xs ++ ys) name

@@ -1,15 +1,12 @@
 -- One stage of the work on the inputs after another.
 use Rattle.std.proofs.Common.{◌≡◌, ◌≤◌, ℕ, List, [], ◌∷◌, ◌++◌, Option, Some, Result, Ok, Err, refl, ap, ◌∙◌, arith, true, IfErr}
-use Rattle.smp_io.specs.Counts.{Rose}
-use Rattle.smp_io.specs.Store.{Files}
+use Rattle.smp_io.specs.{Counts.{Rose}, Store.{Files}}
 use Rattle.smp_io.proofs.Asked.{only_both, only_first}
 use Rattle.smp_words.specs.Words.{all_distinct}
-use Rattle.smp_status.specs.declared.status.Status.{Status}
+use Rattle.smp_status.specs.{declared.status.Status.{Status}, Reports.{IsOfInputs}}
 use Rattle.smp_frac.specs.Faults.{◌>>=◌}
-use Rattle.smp_plan.specs.Stops.{Stop, without}
+use Rattle.smp_plan.specs.{Stops.{Stop, without}, Reads.{Told, Sees, Follows, IsErrorOf, IsCaused, ReadCause, Reads}}
 use Rattle.smp_status.specs.Codes.{Class, IsDone, IsUsage, IsRefusal, IsReadFault, IsWriteFault, IsNoMemory, class_of}
-use Rattle.smp_status.specs.Reports.{IsOfInputs}
-use Rattle.smp_plan.specs.Reads.{Told, Sees, Follows, IsErrorOf, IsCaused, ReadCause, Reads}
 use Rattle.smp_plan.proofs.Names.{contains_left, contains_right, Apart, apart}
 
 pub rose_since : (first before now : ℕ) → first ≤ before → Rose before now → Rose first now

@@ -1,17 +1,13 @@
 -- What holds of the certain units, whatever the number of draws.
 use Rattle.std.proofs.Common.{◌≡◌, ℕ, zero, suc, ◌+◌, ◌-◌, ◌*◌, ◌<◌, ◌≤◌, true, false, cond, nat_lt, nat_le, List, [], ◌∷◌, length, get_or, drop, arith, refl, inl, inr}
-use Rattle.std.specs.Prelude.{sum}
-use Rattle.std.specs.List.Sorted.{IsPermutation}
-use Rattle.std.proofs.Math.Nat.{mul-le-mul_left, mul-le-mul_right}
+use Rattle.std.specs.{Prelude.{sum}, List.Sorted.{IsPermutation}}
+use Rattle.std.proofs.{Math.Nat.{mul-le-mul_left, mul-le-mul_right}, lemmas.List.Sums.{sum_by-cons}}
 use Rattle.std.proofs.lemmas.Bool.{cases_Bool, cases_eq, and_parts, ltb-true, ltb-false, lt-ltb, le-leb, leb-true}
 use Rattle.std.proofs.lemmas.List.Sorted.{IsPermutation-refl, IsPermutation-sym, IsPermutation-trans, IsPermutation-cons, IsPermutation-middle, sum_by-IsPermutation}
-use Rattle.std.proofs.lemmas.List.Sums.{sum_by-cons}
 use Rattle.smp_prob.specs.Requested.{larger, rest, is_certain, is_free, certain_units, open_total, positive_units, IsFalling}
 use Rattle.smp_prob.specs.Kept.Cuts.{border}
-use Rattle.smp_prob.proofs.Sizes.{each_order}
+use Rattle.smp_prob.proofs.{Sizes.{each_order}, Least.{least_cut, least_is}, FallingOrders.{long_order, cut_order, first_are_certain}}
 use Rattle.smp_prob.proofs.Cuts.{at_least, IsCut, certain_is, certain_count, open_sum, at_least_some, less_times, share_below, draw_left}
-use Rattle.smp_prob.proofs.Least.{least_cut, least_is}
-use Rattle.smp_prob.proofs.FallingOrders.{long_order, cut_order, first_are_certain}
 
 -- ---- any sizes have a falling order
 

@@ -1,15 +1,13 @@
 -- The draws that numerators over a denominator share, and what their shapes are out of.
 use Rattle.std.proofs.Common.{◌≡◌, ◌↔◌, ℕ, ◌*◌, ◌/◌, ◌%◌, ◌^◌, ◌<◌, ◌≤◌, zero, suc, true, List, [], ◌∷◌, length, arith, refl, ap, inl, inr}
 use Rattle.std.specs.Prelude.{sum, slice_index, EachIndex, All}
-use Rattle.std.proofs.lemmas.Bool.{cases_Bool, eqb-true, eq-eqb}
-use Rattle.std.proofs.lemmas.List.Elements.{All-from_get_or}
+use Rattle.std.proofs.{lemmas.Bool.{cases_Bool, eqb-true, eq-eqb}, lemmas.List.Elements.{All-from_get_or}}
 use Rattle.std.proofs.lemmas.List.Sums.{get_or-le-sum_by, sum_by-le}
 use Rattle.std.proofs.lemmas.Nat.Gcd.{dvd_of_mod-eq-zero, mod-eq-zero_of_dvd, le_of_dvd, dvd-zero}
 use Rattle.std.proofs.Math.Nat.{div-mul_cancel, div-le_of_le-mul, div-le_self, mul-lt-mul_of_pos_left, dvd-mul_left}
 use Prim.Native.Nat.{◌∣◌}
 use Rattle.smp_frac.specs.Limits.{most_rows}
-use Rattle.smp_prob.specs.Shapes.{size_divisor, shape_of}
-use Rattle.smp_prob.specs.Given.{has_whole_sum, draws, out_of, largest_multiple}
+use Rattle.smp_prob.specs.{Shapes.{size_divisor, shape_of}, Given.{has_whole_sum, draws, out_of, largest_multiple}}
 use Rattle.smp_prob.proofs.ShapeLemmas.{divides_each, divisor_positive, length-shape_of, shape-divisor, total-divisor, shape_below, shape_small, sum_narrow}
 
 module _ (den : ℕ) (numerators : List ℕ) where

@@ -1,21 +1,14 @@
 -- The sum of fractions over the least common multiple of their denominators.
 use Rattle.std.proofs.Common.{◌≡◌, ◌↔◌, ℕ, zero, suc, ◌+◌, ◌*◌, ◌<◌, ◌≤◌, List, length, get_or, map, take, pos, ◌*ℤ◌, arith, sym, ap, add-one}
 use Rattle.std.specs.Prelude.{sum}
-use Rattle.std.proofs.lemmas.List.{get_or-map, length-map, take_all}
-use Rattle.std.proofs.lemmas.List.Sums.{sum_by_more}
-use Rattle.std.proofs.lemmas.Nat.Gcd.{dvd_refl}
+use Rattle.std.proofs.{lemmas.List.{get_or-map, length-map, take_all}, lemmas.List.Sums.{sum_by_more}, lemmas.Nat.Gcd.{dvd_refl}}
 use Rattle.std.proofs.Math.Nat.{one-dvd}
-use Rattle.smp_frac.specs.Fractions.{Fraction, Same, whole, plus, over, sum_below, positive_one}
-use Rattle.smp_frac.proofs.Arithmetic.{same_sym, same_trans, plus_same}
-use Rattle.smp_frac.proofs.Integers.{diff-same, diffs}
+use Rattle.smp_frac.specs.{Fractions.{Fraction, Same, whole, plus, over, sum_below, positive_one}, declared.fractions.Frac.{Frac}}
+use Rattle.smp_frac.proofs.{Arithmetic.{same_sym, same_trans, plus_same}, Integers.{diff-same, diffs}, Unique.{same_frac}}
 use Rattle.smp_frac.proofs.Over.{zero-over, over_from_cross, cross_from_over}
-use Rattle.smp_frac.specs.declared.fractions.Frac.{Frac}
-use Rattle.smp_frac.specs.Exact.{fraction}
-use Rattle.smp_frac.specs.Laws.Lowest.{lowest_from_coprime}
-use Rattle.smp_frac.proofs.Unique.{same_frac}
+use Rattle.smp_frac.specs.{Exact.{fraction}, Laws.Lowest.{lowest_from_coprime}}
 use Rattle.smp_prob.specs.Given.{IsWholeNumber, common_multiple, numerator_over, given_fraction, expected_size}
-use Rattle.smp_prob.proofs.Multiples.{common_multiple_positive, denominators_divide}
-use Rattle.smp_prob.proofs.Numerators.{fraction_is_over}
+use Rattle.smp_prob.proofs.{Multiples.{common_multiple_positive, denominators_divide}, Numerators.{fraction_is_over}}
 
 -- a whole number in lowest terms
 whole_frac : ℕ → Frac

@@ -1,12 +1,10 @@
 -- The order of the sizes doesn't matter.
 use Rattle.std.proofs.Common.{◌≡◌, ℕ, ◌<◌, ◌≤◌, cond, nat_lt, List, length, get_or, arith, refl, sym, ◌∙◌}
 use Rattle.std.specs.List.Sorted.{IsPermutation}
-use Rattle.std.proofs.lemmas.List.Sorted.{sum_by-IsPermutation, length_permutation}
-use Rattle.std.proofs.lemmas.List.Sums.{count_by-le-length}
+use Rattle.std.proofs.{lemmas.List.Sorted.{sum_by-IsPermutation, length_permutation}, lemmas.List.Sums.{count_by-le-length}}
 use Rattle.smp_prob.specs.Requested.{is_certain, certain_units, positive_units, IsFalling, IsLeastCut, FirstAreCertain}
 use Rattle.smp_prob.specs.Kept.Cuts.{border}
-use Rattle.smp_prob.proofs.Sizes.{each_order}
-use Rattle.smp_prob.proofs.Cuts.{at_least, below, IsCut, certain_count, open_sum}
+use Rattle.smp_prob.proofs.{Sizes.{each_order}, Cuts.{at_least, below, IsCut, certain_count, open_sum}}
 use Rattle.smp_prob.proofs.Least.{least_cut, least_is, first_certain, is_cut, sums}
 
 certain_order : (n : ℕ) (xs ys : List ℕ) → IsPermutation xs ys → (z : ℕ) → is_certain n ys z ≡ is_certain n xs z

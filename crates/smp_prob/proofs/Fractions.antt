@@ -1,19 +1,13 @@
 -- The numerators and the common denominator of a request are those of its probabilities.
 use Rattle.std.proofs.Common.{◌≡◌, ℕ, ◌*◌, ◌/◌, ◌^◌, ◌<◌, ◌≤◌, List, [], ◌∷◌, length, map, arith, refl, ◌∙◌, subst, inl, inr, ne_eqb, eq-eqb}
-use Rattle.std.specs.Prelude.{slice_index, sum}
-use Rattle.std.specs.Int.{IsGcd}
+use Rattle.std.specs.{Prelude.{slice_index, sum}, Int.{IsGcd}}
 use Rattle.std.proofs.Math.Nat.{div-mul_cancel, div-le_self, lt_of_mul-lt-mul_right, one-le-mul, eq-zero_of_zero-dvd}
-use Rattle.std.proofs.lemmas.Bool.{cases_eq}
-use Rattle.std.proofs.lemmas.List.{get_or-map, length-map}
-use Rattle.std.proofs.lemmas.List.Sums.{sum_by-cons}
+use Rattle.std.proofs.{lemmas.Bool.{cases_eq}, lemmas.List.{get_or-map, length-map}, lemmas.List.Sums.{sum_by-cons}}
 use Prim.Native.Nat.{◌∣◌}
-use Rattle.smp_frac.specs.Fractions.{Same, over}
+use Rattle.smp_frac.specs.{Fractions.{Same, over}, Laws.Gcds.{IsGcd-greatest_common_divisor}}
 use Rattle.smp_frac.proofs.Over.{over_same}
-use Rattle.smp_frac.specs.Laws.Gcds.{IsGcd-greatest_common_divisor}
-use Rattle.smp_prob.specs.declared.requests.Request.{Request}
-use Rattle.smp_prob.specs.Requests.{IsRequest}
+use Rattle.smp_prob.specs.{declared.requests.Request.{Request}, Requests.{IsRequest}, Inclusions.{free_fraction}}
 use Rattle.smp_prob.specs.Shares.{common_divisor, common_denominator, numerators}
-use Rattle.smp_prob.specs.Inclusions.{free_fraction}
 
 -- a quotient of a number that isn't 0
 quotient_positive : (g factor r : ℕ) → factor * g ≡ r → 1 ≤ r → 1 ≤ factor

@@ -1,33 +1,20 @@
 -- The request for units with given probabilities.
 use Rattle.std.proofs.Common.{◌≡◌, ◌↔◌, ℕ, suc, ◌+◌, ◌*◌, ◌<◌, ◌≤◌, Bool, true, false, cond, not, nat_lt, List, [], ◌∷◌, length, get_or, map, take, arith, refl, sym, ap, ◌∙◌, inl, inr, true≢false, subst}
-use Rattle.std.specs.Prelude.{slice_index, sum, count_by, filter, EachIndex, All}
-use Rattle.std.specs.List.{range_with_len}
+use Rattle.std.specs.{Prelude.{slice_index, sum, count_by, filter, EachIndex, All}, List.{range_with_len}}
 use Rattle.std.proofs.lemmas.Bool.{cases_Bool, cases_eq, cases_lt, and_parts, and_right, ltb-true, ltb-false, lt-ltb, le-ltb}
-use Rattle.std.proofs.lemmas.List.{length-map}
-use Rattle.std.proofs.lemmas.List.Elements.{All-get_or, All-map, filter_passes}
+use Rattle.std.proofs.{lemmas.List.{length-map}, lemmas.List.Elements.{All-get_or, All-map, filter_passes}, Math.Nat.{dvd-mul_left}}
 use Rattle.std.proofs.lemmas.List.Sums.{length-filter, count_by-le-length, sum_by-cons}
-use Rattle.std.proofs.Math.Nat.{dvd-mul_left}
 use Prim.Native.Nat.{◌∣◌}
-use Rattle.smp_frac.specs.Fractions.{Same, whole, over}
-use Rattle.smp_frac.proofs.Arithmetic.{cancel, same_sym, same_trans}
-use Rattle.smp_frac.proofs.Over.{over_one, over_zero, over_same}
-use Rattle.smp_frac.specs.Limits.{most_rows}
-use Rattle.smp_frac.specs.declared.fractions.Frac.{Frac}
-use Rattle.smp_frac.specs.Laws.Coprime.{dvd_second}
-use Rattle.smp_prob.specs.declared.requests.Request.{Request}
+use Rattle.smp_frac.specs.{Fractions.{Same, whole, over}, Limits.{most_rows}, declared.fractions.Frac.{Frac}, Laws.Coprime.{dvd_second}}
+use Rattle.smp_frac.proofs.{Arithmetic.{cancel, same_sym, same_trans}, Over.{over_one, over_zero, over_same}}
+use Rattle.smp_prob.specs.{declared.requests.Request.{Request}, Kept.Numerators.{full, between, over_of}, Requested.{places}}
 use Rattle.smp_prob.specs.Given.{AreGiven, IsWholeNumber, common_multiple, draws, expected_size, free_numerators, given_fraction, given_of, has_whole_sum, is_certain, is_free, largest_multiple, numerator_over}
-use Rattle.smp_prob.specs.Kept.Numerators.{full, between, over_of}
-use Rattle.smp_prob.specs.Requested.{places}
-use Rattle.smp_prob.specs.Requests.{IsRequest}
-use Rattle.smp_prob.specs.Shapes.{shape_of}
-use Rattle.smp_prob.specs.Inclusions.{AreApart, AreBelow, IsRising, asked_fraction, count_taken}
+use Rattle.smp_prob.specs.{Requests.{IsRequest}, Shapes.{shape_of}, Inclusions.{AreApart, AreBelow, IsRising, asked_fraction, count_taken}}
 use Rattle.smp_prob.proofs.Draws.{divides-whole, whole-draws, whole-shapes, share-cross, draws_positive, share_below, narrow, out_narrow, no_draws}
-use Rattle.smp_prob.proofs.Expected.{given_is_over, expected_whole}
-use Rattle.smp_prob.proofs.Multiples.{common_multiple_positive, denominators_divide}
+use Rattle.smp_prob.proofs.{Expected.{given_is_over, expected_whole}, Multiples.{common_multiple_positive, denominators_divide}}
 use Rattle.smp_prob.proofs.Numerators.{certain_over, free_over, filter-map, numerator_within, places-map}
-use Rattle.smp_prob.proofs.Picks.{length-places, places_below, size_at_place}
+use Rattle.smp_prob.proofs.{Picks.{length-places, places_below, size_at_place}, ShapeLemmas.{length-shape_of, shape_positive, shape_small}}
 use Rattle.smp_prob.proofs.Positions.{IsPickedBy, are_apart, count-selected, picked, places_rise, stands_certain, stands_free, stands_never}
-use Rattle.smp_prob.proofs.ShapeLemmas.{length-shape_of, shape_positive, shape_small}
 
 -- all numerators are those of the certain units and those of the free ones
 sum-split : (den : ℕ) (zs : List ℕ) → EachIndex zs (λ i. slice_index zs i ≤ den) → sum zs ≡ count_by (full den) zs * den + sum (filter (between den) zs)

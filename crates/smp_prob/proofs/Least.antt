@@ -1,12 +1,9 @@
 -- The least cut of sizes in falling order is the cut that makes units certain.
 use Rattle.std.proofs.Common.{◌≡◌, ℕ, zero, suc, ◌+◌, ◌-◌, ◌*◌, ◌<◌, ◌≤◌, true, false, cond, nat_lt, List, [], ◌∷◌, length, get_or, drop, arith, refl, ap, ◌∙◌, inl, inr, ◌⊎◌}
 use Rattle.std.specs.Prelude.{sum}
-use Rattle.std.proofs.Math.Nat.{mul-le-mul_left}
-use Rattle.std.proofs.lemmas.Bool.{cases_Bool, cases_eq, ltb-true, ltb-false, lt-ltb, le-ltb}
-use Rattle.std.proofs.lemmas.List.Sums.{sum_by-cons, sum_by-drop_more, count_by-le-length}
-use Rattle.std.proofs.lemmas.List.{get_or_past}
-use Rattle.smp_prob.specs.Requested.{is_certain, positive_units, IsFalling, Stops, IsLeastCut}
-use Rattle.smp_prob.specs.Kept.Cuts.{border}
+use Rattle.std.proofs.{Math.Nat.{mul-le-mul_left}, lemmas.Bool.{cases_Bool, cases_eq, ltb-true, ltb-false, lt-ltb, le-ltb}}
+use Rattle.std.proofs.{lemmas.List.Sums.{sum_by-cons, sum_by-drop_more, count_by-le-length}, lemmas.List.{get_or_past}}
+use Rattle.smp_prob.specs.{Requested.{is_certain, positive_units, IsFalling, Stops, IsLeastCut}, Kept.Cuts.{border}}
 use Rattle.smp_prob.proofs.Cuts.{at_least, below, IsCut, certain_is}
 
 sum-cons : (x : ℕ) (xs : List ℕ) → sum (x ∷ xs) ≡ x + sum xs

@@ -1,16 +1,11 @@
 -- The least common multiple of the denominators of fractions.
 use Rattle.std.proofs.Common.{◌≡◌, ℕ, zero, suc, ◌<◌, ◌≤◌, ◌+◌, List, [], ◌∷◌, length, get_or, take, inl, inr, arith, sym, ap, ◌∙◌, subst}
 use Rattle.std.specs.Prelude.{fold, All}
-use Rattle.std.proofs.lemmas.Bool.{cases_eq}
-use Rattle.std.proofs.lemmas.List.Elements.{All-take}
-use Rattle.std.proofs.lemmas.List.Sums.{fold_more}
+use Rattle.std.proofs.{lemmas.Bool.{cases_eq}, lemmas.List.Elements.{All-take}, lemmas.List.Sums.{fold_more}, Math.Nat.{one-dvd}}
 use Rattle.std.proofs.lemmas.Nat.Gcd.{dvd_antisymm, dvd_refl, dvd_trans, dvd-zero}
-use Rattle.std.proofs.Math.Nat.{one-dvd}
 use Prim.Native.Nat.{◌∣◌}
-use Rattle.smp_frac.specs.declared.fractions.Frac.{Frac}
-use Rattle.smp_frac.specs.Divisors.{greatest_common_divisor, IsCommonMultiple, IsLeastMultiple}
-use Rattle.smp_frac.specs.Laws.Coprime.{IsLeastMultiple-from_gcd}
-use Rattle.smp_frac.specs.Laws.Gcds.{IsGcd-greatest_common_divisor}
+use Rattle.smp_frac.specs.{declared.fractions.Frac.{Frac}, Divisors.{greatest_common_divisor, IsCommonMultiple, IsLeastMultiple}}
+use Rattle.smp_frac.specs.{Laws.Coprime.{IsLeastMultiple-from_gcd}, Laws.Gcds.{IsGcd-greatest_common_divisor}}
 use Rattle.smp_prob.specs.Given.{IsLeastMultipleOf, least_multiple, common_multiple}
 
 IsLeastMultiple-least_multiple : (a b : ℕ) → 1 ≤ a → 1 ≤ b → IsLeastMultiple a b (least_multiple a b)

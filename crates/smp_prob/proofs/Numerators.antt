@@ -4,13 +4,9 @@ use Rattle.std.specs.Prelude.{filter, All}
 use Rattle.std.proofs.lemmas.Bool.{cases_Bool, cases_eq, cases_lt, lt-ltb, le-ltb, eq-eqb, ne_eqb}
 use Rattle.std.proofs.Math.Nat.{div-mul_cancel, div-mul-le_self, mul-le-mul_right, mul-lt-mul_of_pos_right}
 use Prim.Native.Nat.{◌∣◌}
-use Rattle.smp_frac.specs.Fractions.{Same, over}
+use Rattle.smp_frac.specs.{Fractions.{Same, over}, declared.fractions.Frac.{Frac}, Exact.{fraction}, Laws.Coprime.{part_positive}}
 use Rattle.smp_frac.proofs.Over.{over_from_cross}
-use Rattle.smp_frac.specs.declared.fractions.Frac.{Frac}
-use Rattle.smp_frac.specs.Exact.{fraction}
-use Rattle.smp_frac.specs.Laws.Coprime.{part_positive}
-use Rattle.smp_prob.specs.Requested.{places}
-use Rattle.smp_prob.specs.Given.{is_certain, is_free, numerator_over}
+use Rattle.smp_prob.specs.{Requested.{places}, Given.{is_certain, is_free, numerator_over}}
 
 -- a numerator is at most the multiple
 pub numerator_within : (multiple : ℕ) (p : Frac) → p.num ≤ p.den → numerator_over multiple p ≤ multiple

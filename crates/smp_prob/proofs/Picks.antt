@@ -1,8 +1,7 @@
 -- The places and the sizes that a test picks.
 use Rattle.std.proofs.Common.{◌≡◌, ℕ, zero, suc, ◌+◌, ◌<◌, Bool, true, false, cond, not, nat_lt, ◌&&◌, List, [], ◌∷◌, length, get_or, arith, refl, sym, ap, ◌∙◌, inl, inr}
 use Rattle.std.specs.Prelude.{sum, sum_by, count_by, filter, All}
-use Rattle.std.proofs.lemmas.Bool.{cases_Bool, cases_eq, lt-ltb}
-use Rattle.std.proofs.lemmas.List.Elements.{All-cons, All-nil, All-weaker}
+use Rattle.std.proofs.{lemmas.Bool.{cases_Bool, cases_eq, lt-ltb}, lemmas.List.Elements.{All-cons, All-nil, All-weaker}}
 use Rattle.std.proofs.lemmas.List.Sums.{sum_by-cons}
 use Rattle.smp_prob.specs.Requested.{places, positive_units}
 use Rattle.smp_prob.proofs.Sizes.{sum_by-plus}

@@ -1,23 +1,15 @@
 -- Where the units of a request stand, and how many of them a draw selects.
 use Rattle.std.proofs.Common.{◌≡◌, ◌≢◌, ℕ, zero, suc, ◌+◌, ◌-◌, ◌*◌, ◌<◌, ◌≤◌, Bool, true, false, cond, not, nat_lt, nat_eq, List, [], ◌∷◌, length, get_or, take, Some, None, arith, refl, sym, ap, ◌∙◌, inl, inr, add-one, true≢false}
-use Rattle.std.specs.Prelude.{count_by, filter, position}
-use Rattle.std.specs.List.{position_or_len, range_with_len}
-use Rattle.std.proofs.Math.Seq.{take-length}
-use Rattle.std.proofs.lemmas.List.{get_or_past}
+use Rattle.std.specs.{Prelude.{count_by, filter, position}, List.{position_or_len, range_with_len}}
+use Rattle.std.proofs.{Math.Seq.{take-length}, lemmas.List.{get_or_past}, lemmas.List.Elements.{All-get_or, filter_passes}}
 use Rattle.std.proofs.lemmas.Bool.{cases_Bool, cases_lt, and_parts, and_right, and_cases, lt-ltb, le-ltb, eq-eqb, ne_eqb}
-use Rattle.std.proofs.lemmas.List.Elements.{All-get_or, filter_passes}
 use Rattle.std.proofs.lemmas.List.Sums.{length-filter, sum_by-cons, position_or_len_is, count_by_more_yes, count_by_more_no}
 use Rattle.smp_frac.specs.Fractions.{Same, whole}
-use Rattle.smp_frac.proofs.Arithmetic.{same_refl}
-use Rattle.smp_frac.proofs.Over.{over_same}
-use Rattle.smp_prob.specs.declared.requests.Request.{Request}
-use Rattle.smp_prob.specs.declared.inclusions.Inclusion.TheVariants.{Certain, Free, Never}
-use Rattle.smp_prob.specs.Requested.{is_certain, is_free, certain_units, places, requested_of, requested_fraction}
-use Rattle.smp_prob.specs.Inclusions.{Rises, AreApart, IsRising, inclusion, is_taken, count_taken, asked_fraction}
-use Rattle.smp_prob.specs.Kept.Cuts.{IsFeasible}
-use Rattle.smp_prob.specs.Requests.{IsRequest}
-use Rattle.smp_prob.proofs.RequestedUnits.{in_proportion}
-use Rattle.smp_prob.proofs.Picks.{length-places, size_at_place}
+use Rattle.smp_frac.proofs.{Arithmetic.{same_refl}, Over.{over_same}}
+use Rattle.smp_prob.specs.{declared.requests.Request.{Request}, declared.inclusions.Inclusion.TheVariants.{Certain, Free, Never}}
+use Rattle.smp_prob.specs.{Requested.{is_certain, is_free, certain_units, places, requested_of, requested_fraction}, Kept.Cuts.{IsFeasible}}
+use Rattle.smp_prob.specs.{Inclusions.{Rises, AreApart, IsRising, inclusion, is_taken, count_taken, asked_fraction}, Requests.{IsRequest}}
+use Rattle.smp_prob.proofs.{RequestedUnits.{in_proportion}, Picks.{length-places, size_at_place}}
 
 -- ---- positions in a list that rises
 

@@ -1,13 +1,10 @@
 -- The request for n units: its probabilities are in proportion to size, and strictly between 0 and 1.
 use Rattle.std.proofs.Common.{◌≡◌, ℕ, ◌-◌, ◌*◌, ◌^◌, ◌<◌, ◌≤◌, true, not, nat_lt, ◌&&◌, List, [], ◌∷◌, length, arith, refl, sym, ap, ◌∙◌}
 use Rattle.std.specs.Prelude.{slice_index, sum, filter, EachIndex, All}
-use Rattle.std.proofs.lemmas.Bool.{and_parts, ltb-true}
-use Rattle.std.proofs.lemmas.List.Elements.{All-get_or, All-from_get_or, All-filter, filter_passes}
+use Rattle.std.proofs.{lemmas.Bool.{and_parts, ltb-true}, lemmas.List.Elements.{All-get_or, All-from_get_or, All-filter, filter_passes}}
 use Rattle.std.proofs.lemmas.List.Sums.{length-filter, count_by-le-length}
-use Rattle.smp_prob.specs.Shapes.{shape_of}
-use Rattle.smp_prob.specs.Requests.{IsRequest}
+use Rattle.smp_prob.specs.{Shapes.{shape_of}, Requests.{IsRequest}, Kept.Cuts.{IsFeasible}}
 use Rattle.smp_prob.specs.Requested.{is_certain, is_free, certain_units, open_total, positive_units, places, free_sizes, requested_of}
-use Rattle.smp_prob.specs.Kept.Cuts.{IsFeasible}
 use Rattle.smp_prob.proofs.Cuts.{IsCut, certain_is, is_free_below}
 use Rattle.smp_prob.proofs.ShapeLemmas.{length-shape_of, shape_positive, shape_below, shape_small, sum_narrow, proportional}
 use Rattle.smp_prob.proofs.Picks.{places-same, filter-same, length-places, size_at_place, sum-free, positive-split}

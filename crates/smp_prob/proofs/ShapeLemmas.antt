@@ -2,13 +2,10 @@
 use Rattle.std.proofs.Common.{◌≡◌, ℕ, zero, suc, ◌*◌, ◌/◌, ◌^◌, ◌<◌, ◌≤◌, List, [], ◌∷◌, length, map, arith}
 use Rattle.std.specs.Prelude.{fold, sum, slice_index, EachIndex, All}
 use Rattle.std.proofs.Math.Nat.{div-mul_cancel, div-le_self, dvd-mul_right, lt_of_mul-lt-mul_right, pos_of_dvd_of_pos}
-use Rattle.std.proofs.lemmas.List.{get_or-map, length-map}
-use Rattle.std.proofs.lemmas.List.Elements.{All-from_get_or}
+use Rattle.std.proofs.{lemmas.List.{get_or-map, length-map}, lemmas.List.Elements.{All-from_get_or}, lemmas.Nat.Gcd.{dvd_refl, dvd_trans}}
 use Rattle.std.proofs.lemmas.List.Sums.{sum_by-cons, sum_by-le}
-use Rattle.std.proofs.lemmas.Nat.Gcd.{dvd_refl, dvd_trans}
 use Prim.Native.Nat.{◌∣◌}
-use Rattle.smp_frac.specs.Divisors.{greatest_common_divisor}
-use Rattle.smp_frac.specs.Laws.Gcds.{IsGcd-greatest_common_divisor}
+use Rattle.smp_frac.specs.{Divisors.{greatest_common_divisor}, Laws.Gcds.{IsGcd-greatest_common_divisor}}
 use Rattle.smp_prob.specs.Shapes.{size_divisor, shape_of}
 
 -- the greatest common divisor of d and all sizes divides d

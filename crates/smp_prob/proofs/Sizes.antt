@@ -1,13 +1,9 @@
 -- Sums over sizes, and the sizes in another order.
 use Rattle.std.proofs.Common.{◌≡◌, ℕ, suc, ◌+◌, ◌-◌, ◌^◌, ◌<◌, ◌≤◌, nat_lt, List, [], ◌∷◌, length, get_or, reverse, inl, inr, arith, refl}
-use Rattle.std.specs.Prelude.{slice_index, sum_by, EachIndex}
-use Rattle.std.specs.List.Sorted.{IsPermutation, IsSorted}
-use Rattle.std.specs.Ordering.{nat_cmp}
-use Rattle.std.proofs.lemmas.Bool.{cases_Bool, ltb-true, ltb-false}
-use Rattle.std.proofs.lemmas.List.{get_or_past, get_or-reverse, length-reverse}
-use Rattle.std.proofs.lemmas.List.Elements.{All-get_or, All-from_get_or}
+use Rattle.std.specs.{Prelude.{slice_index, sum_by, EachIndex}, List.Sorted.{IsPermutation, IsSorted}, Ordering.{nat_cmp}}
+use Rattle.std.proofs.{lemmas.Bool.{cases_Bool, ltb-true, ltb-false}, lemmas.List.{get_or_past, get_or-reverse, length-reverse}}
+use Rattle.std.proofs.{lemmas.List.Elements.{All-get_or, All-from_get_or}, lemmas.List.Sums.{sum_by-cons, get_or-le-sum_by}}
 use Rattle.std.proofs.lemmas.List.Sorted.{IsPermutation-sym, All-permutation, IsNonDecreasingBy-from_sort}
-use Rattle.std.proofs.lemmas.List.Sums.{sum_by-cons, get_or-le-sum_by}
 use Rattle.smp_prob.specs.Requested.{IsFalling}
 
 -- each size is part of the sum

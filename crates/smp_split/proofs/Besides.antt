@@ -1,13 +1,10 @@
 -- Two designs side by side are lawful by two lenses, and the mean of a product is the product of the means.
 use Rattle.std.proofs.Common.{◌≡◌, ℕ, ◌-◌, ◌≤◌, true, false, cond, nat_lt, arith, refl, inl, inr}
 use Rattle.std.proofs.lemmas.Bool.{cases_Bool, ltb-true, ltb-false, and_parts}
-use Rattle.smp_split.specs.Besides.{Both, BothBelong, with_first, with_second, beside}
+use Rattle.smp_split.specs.{Besides.{Both, BothBelong, with_first, with_second, beside}, Lenses.{OuterUnit, fixed, as_unit, Lens}}
 use Rattle.smp_frac.specs.Fractions.{Fraction, Same, times}
-use Rattle.smp_split.specs.Lenses.{OuterUnit, fixed, as_unit, Lens}
-use Rattle.smp_split.specs.Means.{mean_of}
-use Rattle.smp_split.specs.Trees.{Tree, LawfulEnd, Lawful}
+use Rattle.smp_split.specs.{Means.{mean_of}, Trees.{Tree, LawfulEnd, Lawful}, Laws.Lenses.{split_through}}
 use Rattle.smp_frac.proofs.Arithmetic.{same_refl, same_trans, times_comm}
-use Rattle.smp_split.specs.Laws.Lenses.{split_through}
 use Rattle.smp_split.proofs.MeanOf.{mean_of_end, mean_of_same, mean_of-times, mean_through}
 
 module _ {A B : Type 0} (a : Tree A) (b : Tree B) (in_a : A → Type 0) (in_b : B → Type 0) where

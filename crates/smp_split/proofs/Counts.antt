@@ -1,21 +1,14 @@
 -- How many units the leaves select.
 use Rattle.std.proofs.Common.{◌≡◌, ◌≢◌, ℕ, ◌+◌, ◌<◌, ◌≤◌, Bool, true, false, cond, nat_eq, List, [], ◌∷◌, length, map, get_or, arith, refl, sym, ap, subst, ◌∙◌, inl, inr}
 use Rattle.std.specs.List.{count_by, sum_by, range_with_len}
-use Rattle.std.proofs.lemmas.Bool.{cases_Bool, and_parts, eqb-false}
-use Rattle.std.proofs.lemmas.List.FromFn.{fill_by_all}
+use Rattle.std.proofs.{lemmas.Bool.{cases_Bool, and_parts, eqb-false}, lemmas.List.FromFn.{fill_by_all}, lemmas.List.Sums.{sum_by-cons}}
 use Rattle.std.proofs.lemmas.List.Sorted.{sum_by-IsPermutation}
-use Rattle.std.proofs.lemmas.List.Sums.{sum_by-cons}
-use Rattle.smp_frac.specs.Bounds.{IsAround}
-use Rattle.smp_frac.specs.Fractions.{Fraction, Same, whole}
-use Rattle.smp_frac.proofs.Around.{around_same, around_whole}
-use Rattle.smp_frac.proofs.Arithmetic.{same_sym}
-use Rattle.smp_split.specs.Trees.{Tree, EachPart, Lawful}
-use Rattle.smp_split.specs.Counts.{selected_count, AddsUp, LeavesSelect, LeavesSelectAround}
-use Rattle.smp_split.specs.Means.{value_sum}
-use Rattle.smp_split.specs.Paths.{AtEachLeaf}
+use Rattle.smp_frac.specs.{Bounds.{IsAround}, Fractions.{Fraction, Same, whole}}
+use Rattle.smp_frac.proofs.{Around.{around_same, around_whole}, Arithmetic.{same_sym}}
+use Rattle.smp_split.specs.{Trees.{Tree, EachPart, Lawful}, Counts.{selected_count, AddsUp, LeavesSelect, LeavesSelectAround}}
+use Rattle.smp_split.specs.{Means.{value_sum}, Paths.{AtEachLeaf}, Laws.Parts.{each_equal, each_moved}}
 use Rattle.smp_split.specs.Orders.{Ordered, IsPlacing, IsInOrder, exchanged_at, next_place, in_order, ordered_tree}
 use Rattle.smp_split.proofs.Orders.{length_places, next_in, other_in}
-use Rattle.smp_split.specs.Laws.Parts.{each_equal, each_moved}
 use Rattle.smp_split.specs.Laws.Steps.{leads_keep, leads_belong}
 
 pub sum_by-map : {X Y : Type 0} (f : Y → ℕ) (g : X → Y) (xs : List X) → sum_by f (map g xs) ≡ sum_by (λ x. f (g x)) xs

@@ -1,16 +1,10 @@
 -- A variant of an enum of designs is a lens that closes.
 use Rattle.std.proofs.Common.{◌≡◌, ℕ, true, false, List, Option, Some, None, refl, sym, subst}
-use Rattle.smp_frac.specs.Bounds.{IsAround}
-use Rattle.smp_frac.specs.Fractions.{Same, whole}
-use Rattle.smp_split.specs.Counts.{AddsUp, LeavesSelect, LeavesSelectAround, selected_count}
-use Rattle.smp_split.specs.Embeds.{embedded, BelongsInside}
-use Rattle.smp_split.specs.Lenses.{as_unit, Lens, Closes}
-use Rattle.smp_split.specs.Means.{value_sum}
-use Rattle.smp_split.specs.Parts.{moved}
+use Rattle.smp_frac.specs.{Bounds.{IsAround}, Fractions.{Same, whole}}
+use Rattle.smp_split.specs.{Counts.{AddsUp, LeavesSelect, LeavesSelectAround, selected_count}, Embeds.{embedded, BelongsInside}}
+use Rattle.smp_split.specs.{Lenses.{as_unit, Lens, Closes}, Means.{value_sum}, Parts.{moved}, Laws.Lenses.{leaves_through, parts_through}}
 use Rattle.smp_split.specs.Trees.{Part, Tree, Lawful, LawfulParts, LawfulSplit, LawfulEnd}
-use Rattle.smp_frac.proofs.Around.{around_same}
-use Rattle.smp_frac.proofs.Arithmetic.{same_refl}
-use Rattle.smp_split.specs.Laws.Lenses.{leaves_through, parts_through}
+use Rattle.smp_frac.proofs.{Around.{around_same}, Arithmetic.{same_refl}}
 
 module _ {Inner Outer : Type 0} (into : Inner → Outer) (out : Outer → Option Inner) (inner : Tree Inner) (back : (i : Inner) → out (into i) ≡ Some i) (belongs : Inner → Type 0) where
   pub embedded_lens : Lens inner belongs (embedded into out inner) into as_unit

@@ -2,13 +2,9 @@
 use Rattle.std.proofs.Common.{◌≡◌, ℕ, zero, suc, ◌<◌, List, [], ◌∷◌, ◌++◌, length, Option, Some, None, arith, refl, sym, ap, subst, ◌∙◌, inl, inr, ◌⊎◌, length-append}
 use Rattle.std.specs.List.{slice_get}
 use Rattle.std.proofs.lemmas.Option.{same_Some, slice_get_within}
-use Rattle.smp_split.specs.Trees.{Tree}
-use Rattle.smp_split.specs.declared.places.Place.{Place}
-use Rattle.smp_split.specs.declared.places.Seat.{Seat}
-use Rattle.smp_split.specs.declared.places.Seat.TheVariants.{First, Second}
-use Rattle.smp_split.specs.declared.places.Stage.{Stage}
+use Rattle.smp_split.specs.{Trees.{Tree}, declared.places.Place.{Place}, declared.places.Seat.{Seat}, declared.places.Stage.{Stage}}
+use Rattle.smp_split.specs.{declared.places.Seat.TheVariants.{First, Second}, Laws.Staged.{some_stage}}
 use Rattle.smp_split.specs.Stages.{units_of, within_of, IsFirstUnit, IsUnitWithin, IsStaged, EachBelongs}
-use Rattle.smp_split.specs.Laws.Staged.{some_stage}
 
 module _ {X : Type 0} where
   -- what was there stays, and what is new is the last

@@ -2,14 +2,10 @@
 use Rattle.std.proofs.Common.{◌≡◌, ℕ, zero, suc, ◌<◌, ◌≤◌, true, false, List, arith, refl, sym, ap, subst, ◌∙◌, inl, inr}
 use Rattle.std.proofs.lemmas.Bool.{cases_Bool}
 use Rattle.smp_frac.specs.Fractions.{Fraction, Same, whole, plus, times, divided}
-use Rattle.smp_split.specs.Lenses.{OuterUnit, Lens}
-use Rattle.smp_split.specs.Means.{sum_over_draws, mean_of_within, mean_of}
-use Rattle.smp_split.specs.Parts.{moved}
-use Rattle.smp_split.specs.Trees.{Part, Tree, IsPart, Lawful, weight_sum, picked, weighted}
+use Rattle.smp_split.specs.{Lenses.{OuterUnit, Lens}, Means.{sum_over_draws, mean_of_within, mean_of}, Parts.{moved}, Laws.Means.{no_parts}}
+use Rattle.smp_split.specs.{Trees.{Part, Tree, IsPart, Lawful, weight_sum, picked, weighted}, Laws.Parts.{weight_sum-moved, picked-moved}}
 use Rattle.smp_frac.proofs.Arithmetic.{same_refl, same_trans, divided_same, plus-divided, times-divided, sum_same, sum-plus, sum-times}
-use Rattle.smp_split.specs.Laws.Means.{no_parts}
 use Rattle.smp_split.specs.Laws.Numbers.{draws_are_weights, draws_equal, draws_same, sum_equal}
-use Rattle.smp_split.specs.Laws.Parts.{weight_sum-moved, picked-moved}
 
 module _ {State : Type 0} where
   -- ---- sums and multiples, of any tree

@@ -1,6 +1,5 @@
 -- A state of a method's own starts a selection.
-use Rattle.smp_split.specs.Counts.{LeavesSelectAround}
-use Rattle.smp_split.specs.Methods.{HasCount, HasMeans, Method, Starts}
+use Rattle.smp_split.specs.{Counts.{LeavesSelectAround}, Methods.{HasCount, HasMeans, Method, Starts}}
 use Rattle.smp_split.proofs.Counts.{around_select}
 use Rattle.smp_split.specs.Laws.Means.{mean_is_value, probability_is_value}
 

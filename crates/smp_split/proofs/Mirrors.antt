@@ -1,10 +1,8 @@
 -- An exchange in the two lists that the code keeps of an order.
 use Rattle.std.proofs.Common.{◌≡◌, ◌≢◌, ℕ, ◌+◌, ◌-◌, ◌<◌, ◌≤◌, List, length, map, get_or, set, arith, refl, sym, ap, ◌∙◌, inl, inr, length-set}
 use Rattle.std.specs.List.{swap, range_with_len}
-use Rattle.std.proofs.lemmas.Bool.{cases_eq}
-use Rattle.std.proofs.lemmas.Grind.{same_number_lists}
+use Rattle.std.proofs.{lemmas.Bool.{cases_eq}, lemmas.Grind.{same_number_lists}, lemmas.List.Edits.{length-swap}}
 use Rattle.std.proofs.lemmas.List.{get_or-set_same, get_or-set_other, get_or-map, length-map}
-use Rattle.std.proofs.lemmas.List.Edits.{length-swap}
 use Rattle.std.proofs.lemmas.List.FromFn.{length-range_with_len, get_or-range_with_len}
 use Rattle.smp_split.specs.Orders.{exchange, IsMirrored}
 use Rattle.smp_split.proofs.Orders.{exchange_first, exchange_second, exchange_other, exchange_twice, exchange_in, get_or-swap, get_or-swap_exchange}

@@ -2,8 +2,7 @@
 use Rattle.std.proofs.Common.{◌≡◌, ◌≢◌, ℕ, zero, suc, ◌+◌, ◌*◌, ◌<◌, ◌≤◌, Bool, true, false, cond, List, length, map, get_or, arith, refl, sym, ap, ◌∙◌, inl, inr}
 use Rattle.std.specs.List.{sum_by, range_with_len}
 use Rattle.std.proofs.lemmas.Bool.{cases_Bool, cases_eq}
-use Rattle.smp_split.proofs.Counts.{sum_by-indices, sum_by-map}
-use Rattle.smp_split.proofs.Sums.{sum_by-last}
+use Rattle.smp_split.proofs.{Counts.{sum_by-indices, sum_by-map}, Sums.{sum_by-last}}
 
 abbrev pub sums : ℕ → (ℕ → ℕ) → ℕ
 sums zero f = 0

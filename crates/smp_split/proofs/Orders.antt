@@ -1,17 +1,13 @@
 -- Exchanges of places, and the law of a design whose units stand in an order.
 use Rattle.std.proofs.Common.{◌≡◌, ◌≢◌, ℕ, ◌+◌, ◌-◌, ◌^◌, ◌<◌, ◌≤◌, true, false, nat_eq, List, length, map, get_or, set, arith, refl, sym, ap, subst, ◌∙◌, inl, inr, length-set}
-use Rattle.std.specs.List.{range_with_len, swap}
-use Rattle.std.specs.List.Sorted.{IsPermutation}
-use Rattle.std.proofs.lemmas.Bool.{cases_Bool, cases_eq, eqb-false, eq-eqb, ne_eqb, and_parts}
-use Rattle.std.proofs.lemmas.Grind.{same_number_lists}
-use Rattle.std.proofs.lemmas.List.{get_or-set_same, get_or-set_other, get_or-map, length-map}
-use Rattle.std.proofs.lemmas.List.Edits.{swap_is, length-swap}
+use Rattle.std.specs.{List.{range_with_len, swap}, List.Sorted.{IsPermutation}}
+use Rattle.std.proofs.{lemmas.Bool.{cases_Bool, cases_eq, eqb-false, eq-eqb, ne_eqb, and_parts}, lemmas.Grind.{same_number_lists}}
+use Rattle.std.proofs.{lemmas.List.{get_or-set_same, get_or-set_other, get_or-map, length-map}, lemmas.List.Edits.{swap_is, length-swap}}
 use Rattle.std.proofs.lemmas.List.FromFn.{length-range_with_len, get_or-range_with_len}
 use Rattle.std.proofs.lemmas.List.Sorted.{IsPermutation-refl, IsPermutation-swap, IsPermutation-map, IsPermutation-trans, IsPermutation-keeps, length_permutation}
 use Rattle.smp_frac.specs.Fractions.{Same, whole, times}
-use Rattle.smp_split.specs.Trees.{Tree, IsPart, LawfulSplit, Lawful, weight_sum, picked, weighted}
+use Rattle.smp_split.specs.{Trees.{Tree, IsPart, LawfulSplit, Lawful, weight_sum, picked, weighted}, Lenses.{as_unit, Lens}}
 use Rattle.smp_split.specs.Orders.{exchange, Placing, Ordered, IsPlacing, IsInOrder, IsExchange, exchanged_at, exchanged_order, next_place, frame_order, undrawn_order, order_parts, in_order, ordered_tree}
-use Rattle.smp_split.specs.Lenses.{as_unit, Lens}
 use Rattle.smp_frac.proofs.Arithmetic.{same_refl}
 use Rattle.smp_split.specs.Laws.Lenses.{split_through}
 use Rattle.smp_split.specs.Laws.Parts.{weighted-same, weight_sum-equal, picked-equal, each_equal, weight_sum-moved, picked-moved}

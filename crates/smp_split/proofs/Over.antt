@@ -2,8 +2,7 @@
 use Rattle.std.proofs.Common.{◌≡◌, ℕ, ◌*◌, ◌≤◌, max, List, [], ◌∷◌, arith, ap}
 use Rattle.smp_frac.specs.Fractions.{Same, whole, times, over}
 use Rattle.smp_split.specs.Trees.{Part, EachPart, weight_sum, weighted, weighted_number}
-use Rattle.smp_frac.proofs.Arithmetic.{same_refl, same_trans, plus_same}
-use Rattle.smp_frac.proofs.Integers.{diff-same, diffs}
+use Rattle.smp_frac.proofs.{Arithmetic.{same_refl, same_trans, plus_same}, Integers.{diff-same, diffs}}
 use Rattle.smp_frac.proofs.Over.{zero-over, over_plus, whole-times-over}
 
 module _ {State : Type 0} (num den : State → ℕ) (d : ℕ) where

@@ -1,23 +1,14 @@
 -- Stages of their own go along with the whole: while one of them is under way both make its step, and otherwise they stay as they are.
 use Rattle.std.proofs.Common.{◌≡◌, ◌≢◌, ℕ, zero, suc, ◌+◌, ◌<◌, ◌≤◌, Bool, true, false, not, ◌&&◌, List, [], ◌∷◌, length, take, drop, set, Option, Some, None, option_map, arith, refl, sym, ap, subst, ◌∙◌, inl, inr, ◌⊎◌}
 use Rattle.std.specs.List.{slice_get}
-use Rattle.std.proofs.lemmas.Bool.{cases_Bool, cases_lt, eqb-false, eq-eqb, ne_eqb}
-use Rattle.std.proofs.lemmas.List.{length-take, length-drop, drop-set-lt, drop-set-add, take-set-le}
-use Rattle.std.proofs.lemmas.Option.{slice_get_within, slice_get-map}
-use Rattle.std.proofs.Math.Seq.{take-set-lt}
-use Rattle.smp_split.specs.Parts.{moved}
-use Rattle.smp_split.specs.Sectioning.{IsPartOf}
-use Rattle.smp_split.specs.Trees.{Part, Tree, weight_sum, picked}
-use Rattle.smp_split.specs.Laws.Parts.{picked-moved}
-use Rattle.smp_split.specs.declared.places.Place.{Place}
-use Rattle.smp_split.specs.declared.places.Seat.{Seat}
-use Rattle.smp_split.specs.declared.places.Seat.TheVariants.{Nowhere, First, Second}
-use Rattle.smp_split.specs.declared.places.Stage.{Stage}
+use Rattle.std.proofs.{lemmas.Bool.{cases_Bool, cases_lt, eqb-false, eq-eqb, ne_eqb}, lemmas.Option.{slice_get_within, slice_get-map}}
+use Rattle.std.proofs.{lemmas.List.{length-take, length-drop, drop-set-lt, drop-set-add, take-set-le}, Math.Seq.{take-set-lt}}
+use Rattle.smp_split.specs.{Parts.{moved}, Sectioning.{IsPartOf}, Trees.{Part, Tree, weight_sum, picked}, Laws.Parts.{picked-moved}}
+use Rattle.smp_split.specs.{declared.places.Place.{Place}, declared.places.Seat.{Seat}, declared.places.Stage.{Stage}}
+use Rattle.smp_split.specs.{declared.places.Seat.TheVariants.{Nowhere, First, Second}, Laws.Reads.{set_self, some_within}}
 use Rattle.smp_split.specs.Stages.{Progress, read, within_of, units_of, seat_selected, stage_done, stage_parts, unit_selected, drawn_within, is_drawn, waits, next_stage, progress, staged_tree, IsFirstUnit, IsUnitWithin, IsStaged, IsUnderWay}
 use Rattle.smp_split.specs.OwnStages.{later, stage_later, seat_later, run_of, AreTheirOwn, own_progress, sections_by, AreSections}
-use Rattle.smp_split.specs.Laws.Reads.{set_self, some_within}
-use Rattle.smp_split.specs.Laws.Staged.{some_stage, under_way, stands}
-use Rattle.smp_split.specs.Laws.Turns.{next_is, next_passed, next_waits}
+use Rattle.smp_split.specs.{Laws.Staged.{some_stage, under_way, stands}, Laws.Turns.{next_is, next_passed, next_waits}}
 use Rattle.smp_split.proofs.StageSections.{section, begins_before, ends_before, ends_behind, section_behind, section_other, at_most}
 use Rattle.smp_split.proofs.Stepped.{bound_is}
 

@@ -1,17 +1,12 @@
 -- Sums over all units of a request: those over the free units, and those over the others.
 use Rattle.std.proofs.Common.{◌≡◌, ◌≢◌, ℕ, zero, suc, ◌<◌, Bool, nat_eq, cond, length, Option, Some, None, refl, sym, ap, ◌∙◌, subst, inl, inr}
 use Rattle.std.specs.Prelude.{position, is_some, slice_index}
-use Rattle.std.proofs.lemmas.Bool.{cases_Bool, cases_eq, eq-eqb, ne_eqb, eqb-true}
-use Rattle.std.proofs.lemmas.List.Quantifiers.{position-Some}
+use Rattle.std.proofs.{lemmas.Bool.{cases_Bool, cases_eq, eq-eqb, ne_eqb, eqb-true}, lemmas.List.Quantifiers.{position-Some}}
 use Rattle.smp_frac.specs.Fractions.{Fraction, Same, whole, plus, times, sum_below}
 use Rattle.smp_frac.proofs.Arithmetic.{same_refl, same_sym, same_trans, plus_same, zero-times, one-times, sum_same, sum-plus, sum-zero}
-use Rattle.smp_prob.specs.declared.requests.Request.{Request}
-use Rattle.smp_prob.specs.declared.inclusions.Inclusion.{Inclusion}
-use Rattle.smp_prob.specs.declared.inclusions.Inclusion.TheVariants.{Certain, Free, Never}
-use Rattle.smp_prob.specs.Inclusions.{inclusion, free_or_never}
-use Rattle.smp_split.specs.Means.{only}
-use Rattle.smp_split.specs.Laws.Means.{only_sum}
-use Rattle.smp_split.specs.Laws.Rows.{free_within}
+use Rattle.smp_prob.specs.{declared.requests.Request.{Request}, declared.inclusions.Inclusion.{Inclusion}}
+use Rattle.smp_prob.specs.{declared.inclusions.Inclusion.TheVariants.{Certain, Free, Never}, Inclusions.{inclusion, free_or_never}}
+use Rattle.smp_split.specs.{Means.{only}, Laws.Means.{only_sum}, Laws.Rows.{free_within}}
 
 -- sums over two numbers, in either order
 pub sum_exchange : (n m : ℕ) (f : ℕ → ℕ → Fraction) → Same (sum_below n (λ k. sum_below m (f k))) (sum_below m (λ u. sum_below n (λ k. f k u)))

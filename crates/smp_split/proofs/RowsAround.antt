@@ -1,24 +1,15 @@
 -- The certain rows add as much to the number of rows that a leaf selects as to the sum of their values.
-use Rattle.std.proofs.Common.{◌≡◌, ℕ, ◌+◌, ◌<◌, Bool, cond, length, arith, refl, ap, subst, ◌∙◌}
-use Rattle.std.specs.Prelude.{slice_index}
-use Rattle.std.specs.List.{count_by, sum_by, range_with_len}
-use Rattle.std.proofs.lemmas.Int.{ints}
-use Rattle.smp_frac.specs.Bounds.{IsAround}
-use Rattle.smp_frac.specs.Fractions.{Fraction, Same, whole, plus, times, over, sum_below}
+use Rattle.std.proofs.{Common.{◌≡◌, ℕ, ◌+◌, ◌<◌, Bool, cond, length, arith, refl, ap, subst, ◌∙◌}, lemmas.Int.{ints}}
+use Rattle.std.specs.{Prelude.{slice_index}, List.{count_by, sum_by, range_with_len}}
+use Rattle.smp_frac.specs.{Bounds.{IsAround}, Fractions.{Fraction, Same, whole, plus, times, over, sum_below}}
 use Rattle.smp_frac.proofs.Around.{around_same, around_more}
 use Rattle.smp_frac.proofs.Arithmetic.{same_refl, same_sym, same_trans, plus_same, plus_left_comm, plus-zero, zero-plus, one-times, sum_same}
-use Rattle.smp_prob.specs.declared.requests.Request.{Request}
-use Rattle.smp_prob.specs.declared.inclusions.Inclusion.{Inclusion}
+use Rattle.smp_prob.specs.{declared.requests.Request.{Request}, declared.inclusions.Inclusion.{Inclusion}}
 use Rattle.smp_prob.specs.declared.inclusions.Inclusion.TheVariants.{Certain, Free, Never}
 use Rattle.smp_prob.specs.Inclusions.{AreApart, inclusion, is_taken, count_taken}
-use Rattle.smp_split.specs.Counts.{LeavesSelectAround, selected_count}
-use Rattle.smp_split.specs.Means.{value_sum}
-use Rattle.smp_split.specs.Trees.{Tree}
-use Rattle.smp_split.specs.Laws.Lenses.{leaves_through}
-use Rattle.smp_split.proofs.Sums.{sum-over}
-use Rattle.smp_split.specs.Rows.{row_value, rows_tree}
-use Rattle.smp_split.specs.Laws.Rows.{row_view, rows_lens, rows_close}
-use Rattle.smp_split.proofs.RowSums.{at_free, sum_apart}
+use Rattle.smp_split.specs.{Counts.{LeavesSelectAround, selected_count}, Means.{value_sum}, Trees.{Tree}, Laws.Lenses.{leaves_through}}
+use Rattle.smp_split.proofs.{Sums.{sum-over}, RowSums.{at_free, sum_apart}}
+use Rattle.smp_split.specs.{Rows.{row_value, rows_tree}, Laws.Rows.{row_view, rows_lens, rows_close}}
 
 -- ---- sums of whole numbers
 

@@ -1,14 +1,11 @@
 -- The rows of a design that serves its request.
 use Rattle.std.proofs.Common.{◌≡◌, ℕ, ◌<◌, length, refl, ap, ◌∙◌}
 use Rattle.std.specs.List.{count_by, range_with_len}
-use Rattle.smp_prob.specs.declared.requests.Request.{Request}
-use Rattle.smp_prob.specs.declared.inclusions.Inclusion.{Inclusion}
+use Rattle.smp_prob.specs.{declared.requests.Request.{Request}, declared.inclusions.Inclusion.{Inclusion}}
 use Rattle.smp_prob.specs.declared.inclusions.Inclusion.TheVariants.{Certain, Free, Never}
 use Rattle.smp_prob.specs.Inclusions.{inclusion, fraction_at, asked_fraction}
-use Rattle.smp_split.specs.Counts.{AddsUp, LeavesSelect, selected_count}
+use Rattle.smp_split.specs.{Counts.{AddsUp, LeavesSelect, selected_count}, Trees.{Tree}, Laws.Lenses.{leaves_through}}
 use Rattle.smp_frac.specs.Fractions.{Same, whole}
-use Rattle.smp_split.specs.Trees.{Tree}
-use Rattle.smp_split.specs.Laws.Lenses.{leaves_through}
 use Rattle.smp_frac.proofs.Arithmetic.{same_refl}
 use Rattle.smp_split.specs.Rows.{row_value, rows_tree, SelectsAsRequested, AddsUpTo}
 use Rattle.smp_split.specs.Laws.Rows.{free_within, row_view, rows_lens, rows_close}

@@ -1,11 +1,8 @@
 -- Runs over any source: a run comes to a leaf or a stop exactly where a path leads there and the source gives it.
 use Rattle.std.proofs.Common.{◌≡◌, ℕ, zero, suc, ◌<◌, ◌≤◌, true, false, List, [], ◌∷◌, ◌++◌, Result, Ok, Err, arith, refl, sym, ap, subst, ◌∙◌, append_assoc, inl, inr}
-use Rattle.std.proofs.lemmas.Bool.{cases_Bool}
-use Rattle.std.proofs.lemmas.List.{append-nil}
-use Rattle.smp_tape.specs.declared.draws.DrawFault.{DrawFault}
-use Rattle.smp_tape.specs.Sources.{Drawn, Source}
-use Rattle.smp_split.specs.Trees.{Tree, Lawful, weight_sum, picked}
-use Rattle.smp_split.specs.Paths.{Entry, entry_at, IsStep, Leads}
+use Rattle.std.proofs.{lemmas.Bool.{cases_Bool}, lemmas.List.{append-nil}}
+use Rattle.smp_tape.specs.{declared.draws.DrawFault.{DrawFault}, Sources.{Drawn, Source}}
+use Rattle.smp_split.specs.{Trees.{Tree, Lawful, weight_sum, picked}, Paths.{Entry, entry_at, IsStep, Leads}}
 use Rattle.smp_split.specs.Runs.{Outcome, leaf, stopped, by_answer, run_within, run, Gives, IsLeaf, IsStop, IsOutcome}
 use Rattle.smp_split.specs.Laws.Steps.{picked_falls, picked_belongs, value_within}
 

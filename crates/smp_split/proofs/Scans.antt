@@ -2,13 +2,9 @@
 use Rattle.std.proofs.Common.{◌≡◌, ℕ, ◌<◌, true, false, List, length, get_or, Option, Some, refl, ap, ◌∙◌}
 use Rattle.std.specs.List.{slice_get}
 use Rattle.std.proofs.lemmas.Option.{slice_get_read, slice_get_within}
-use Rattle.smp_split.specs.Trees.{Tree}
-use Rattle.smp_split.specs.declared.places.Place.{Place}
-use Rattle.smp_split.specs.declared.places.Seat.{Seat}
-use Rattle.smp_split.specs.declared.places.Stage.{Stage}
+use Rattle.smp_split.specs.{Trees.{Tree}, declared.places.Place.{Place}, declared.places.Seat.{Seat}, declared.places.Stage.{Stage}}
 use Rattle.smp_split.specs.Stages.{units_of, within_of, stage_done, is_drawn, drawn_within, unit_selected, waits, IsFirstUnit, IsUnitWithin, IsStaged}
-use Rattle.smp_split.specs.Laws.Staged.{some_stage}
-use Rattle.smp_split.specs.Laws.Turns.{done_where_drawn, first_drawn}
+use Rattle.smp_split.specs.{Laws.Staged.{some_stage}, Laws.Turns.{done_where_drawn, first_drawn}}
 
 -- an element that was read
 pub read_at : {X : Type 0} (xs : List X) (i : ℕ) (x : X) → i < length xs → x ≡ get_or xs i x → slice_get xs i ≡ Some x

@@ -1,7 +1,6 @@
 -- What holds of sections over some states holds over fewer of them.
 use Rattle.std.proofs.Common.{Bool, ℕ}
-use Rattle.smp_split.specs.Sectioning.{IsPartOf, IsSectioned, Sectioning}
-use Rattle.smp_split.specs.Trees.{Tree}
+use Rattle.smp_split.specs.{Sectioning.{IsPartOf, IsSectioned, Sectioning}, Trees.{Tree}}
 
 module _ {State : Type 0} (tree : Tree State) (belongs fewer : State → Type 0) (within : (s : State) → fewer s → belongs s) (sections : Sectioning State) where
   pub sectioned_within : IsSectioned tree belongs sections → IsSectioned tree fewer sections

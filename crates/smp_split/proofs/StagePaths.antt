@@ -1,20 +1,14 @@
 -- The stages' own paths, one after another, are a path to a leaf.
 use Rattle.std.proofs.Common.{◌≡◌, ℕ, zero, suc, ◌<◌, ◌≤◌, true, false, List, [], ◌∷◌, length, set, Some, arith, refl, sym, ap, subst, ◌∙◌, inl, inr}
 use Rattle.std.specs.List.{slice_get}
-use Rattle.std.proofs.lemmas.Bool.{cases_Bool, cases_eq, cases_lt, eq-eqb}
-use Rattle.std.proofs.lemmas.List.{length-set}
+use Rattle.std.proofs.{lemmas.Bool.{cases_Bool, cases_eq, cases_lt, eq-eqb}, lemmas.List.{length-set}}
 use Rattle.std.proofs.lemmas.Option.{same_Some, slice_get_past}
-use Rattle.smp_split.specs.Paths.{Entry, Leads}
-use Rattle.smp_split.specs.Trees.{Tree}
-use Rattle.smp_split.specs.Laws.Lenses.{leads_through}
+use Rattle.smp_split.specs.{Paths.{Entry, Leads}, Trees.{Tree}, Laws.Lenses.{leads_through}, declared.places.Seat.{Seat}}
 use Rattle.smp_split.proofs.Paths.{leads_join}
-use Rattle.smp_split.specs.declared.places.Seat.{Seat}
-use Rattle.smp_split.specs.declared.places.Stage.{Stage}
-use Rattle.smp_split.specs.StagePaths.{IsStagePath, joined, GoesByStages}
+use Rattle.smp_split.specs.{declared.places.Stage.{Stage}, StagePaths.{IsStagePath, joined, GoesByStages}}
 use Rattle.smp_split.specs.Stages.{Progress, stage_done, is_drawn, waits, next_stage, progress, staged_tree, IsStaged}
 use Rattle.smp_split.specs.Laws.Reads.{slice_get-set_same, slice_get-set_other, set_self, some_within}
-use Rattle.smp_split.specs.Laws.Turns.{read_is, drawn_same, next_is}
-use Rattle.smp_split.specs.Laws.StageLenses.{put, view, stage_lens}
+use Rattle.smp_split.specs.{Laws.Turns.{read_is, drawn_same, next_is}, Laws.StageLenses.{put, view, stage_lens}}
 
 -- lists with the same elements
 same_elements : {X : Type 0} (xs ys : List X) → length xs ≡ length ys → ((i : ℕ) → slice_get xs i ≡ slice_get ys i) → xs ≡ ys

@@ -1,14 +1,9 @@
 -- The stages of a selection in sections, the first of which begins with the first stage.
 use Rattle.std.proofs.Common.{◌≡◌, ◌≢◌, ℕ, zero, suc, ◌<◌, ◌≤◌, nat_lt, List, [], ◌∷◌, length, arith, ap, inl, inr, ◌⊎◌}
 use Rattle.std.proofs.lemmas.Bool.{cases_order, cases_eq, cases_lt, eqb-true, eqb-false, ltb-true, ltb-false}
-use Rattle.smp_split.specs.Sectioning.{IsSectioned}
-use Rattle.smp_split.specs.Trees.{Part, Tree, EachPart}
-use Rattle.smp_split.specs.declared.places.Seat.{Seat}
-use Rattle.smp_split.specs.declared.places.Stage.{Stage}
-use Rattle.smp_split.specs.Stages.{Progress, first_among, staged_tree, IsStaged, IsUnderWay}
-use Rattle.smp_split.specs.OwnStages.{sections_by, AreSections}
-use Rattle.smp_split.specs.Laws.Firsts.{IsFirst, first_is}
-use Rattle.smp_split.specs.Laws.Turns.{next_within}
+use Rattle.smp_split.specs.{Sectioning.{IsSectioned}, Trees.{Part, Tree, EachPart}, declared.places.Seat.{Seat}, Laws.Turns.{next_within}}
+use Rattle.smp_split.specs.{declared.places.Stage.{Stage}, Stages.{Progress, first_among, staged_tree, IsStaged, IsUnderWay}}
+use Rattle.smp_split.specs.{OwnStages.{sections_by, AreSections}, Laws.Firsts.{IsFirst, first_is}}
 use Rattle.smp_split.proofs.Stepped.{parts_rise}
 
 -- ---- the section of a stage

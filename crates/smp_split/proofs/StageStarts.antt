@@ -1,15 +1,9 @@
 -- A selection in stages from any states of theirs.
 use Rattle.std.proofs.Common.{◌≡◌, List, refl, subst, sym}
-use Rattle.smp_split.specs.Counts.{selected_count}
-use Rattle.smp_split.specs.Trees.{Tree, Lawful}
-use Rattle.smp_split.specs.Laws.Means.{mean_is_value, probability_is_value}
-use Rattle.smp_split.specs.declared.places.Seat.{Seat}
-use Rattle.smp_split.specs.declared.places.Stage.{Stage}
-use Rattle.smp_split.specs.Stages.{Progress, progress, staged_tree, IsStaged, EachBelongs, IsUnderWay}
-use Rattle.smp_split.specs.StageStarts.{StartsInStages}
-use Rattle.smp_split.specs.Laws.Staged.{staged_lawful}
-use Rattle.smp_split.proofs.StagePaths.{stages_lead}
-use Rattle.smp_split.proofs.WholePaths.{goes_by_stages, holds_of_stage}
+use Rattle.smp_split.specs.{Counts.{selected_count}, Trees.{Tree, Lawful}, Laws.Means.{mean_is_value, probability_is_value}}
+use Rattle.smp_split.specs.{declared.places.Seat.{Seat}, declared.places.Stage.{Stage}, StageStarts.{StartsInStages}}
+use Rattle.smp_split.specs.{Stages.{Progress, progress, staged_tree, IsStaged, EachBelongs, IsUnderWay}, Laws.Staged.{staged_lawful}}
+use Rattle.smp_split.proofs.{StagePaths.{stages_lead}, WholePaths.{goes_by_stages, holds_of_stage}}
 
 module _ {Design State : Type 0} (tree_of : Design → Tree State) (belongs : Design → State → Type 0) (lawful : (design : Design) → Lawful (tree_of design) (belongs design)) (stages : List (Stage Design)) (seats : List Seat) (staged : IsStaged tree_of stages seats) (states : List State) (each : EachBelongs tree_of belongs stages states) where
   at_progress : StartsInStages tree_of belongs stages seats states (progress tree_of stages states)

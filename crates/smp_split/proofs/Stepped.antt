@@ -2,16 +2,11 @@
 use Rattle.std.proofs.Common.{◌≡◌, ℕ, ◌<◌, ◌≤◌, true, false, List, [], ◌∷◌, length, set, Some, arith, sym, ap, subst, ◌∙◌, inl, inr}
 use Rattle.std.specs.List.{slice_get}
 use Rattle.std.proofs.lemmas.Bool.{eqb-false, cases_lt}
-use Rattle.smp_split.specs.Parts.{moved}
-use Rattle.smp_split.specs.Trees.{Part, Tree, EachPart, Lawful, weight_sum, picked}
-use Rattle.smp_split.specs.Laws.Parts.{weight_sum-moved, picked-moved}
-use Rattle.smp_split.specs.Laws.Steps.{picked_belongs}
-use Rattle.smp_split.specs.declared.places.Seat.{Seat}
-use Rattle.smp_split.specs.declared.places.Stage.{Stage}
+use Rattle.smp_split.specs.{Parts.{moved}, Trees.{Part, Tree, EachPart, Lawful, weight_sum, picked}, Laws.Steps.{picked_belongs}}
+use Rattle.smp_split.specs.{Laws.Parts.{weight_sum-moved, picked-moved}, declared.places.Seat.{Seat}, declared.places.Stage.{Stage}}
 use Rattle.smp_split.specs.Stages.{Progress, stage_parts, waits, next_stage, progress, staged_tree, IsStaged, EachBelongs, IsUnderWay}
-use Rattle.smp_split.specs.Laws.Reads.{slice_get-set_other, set_self}
+use Rattle.smp_split.specs.{Laws.Reads.{slice_get-set_other, set_self}, Laws.Staged.{each_set, under_way, waiting, none_waits}}
 use Rattle.smp_split.specs.Laws.Turns.{read_is, waits_same, next_passed, next_waits, next_within}
-use Rattle.smp_split.specs.Laws.Staged.{each_set, under_way, waiting, none_waits}
 
 module _ {Design State : Type 0} (tree_of : Design → Tree State) (belongs : Design → State → Type 0) (stages : List (Stage Design)) (seats : List Seat) where
   module _ (s : Progress State) (here : IsUnderWay tree_of belongs stages s) (going : (staged_tree tree_of stages seats).done s ≡ false) where

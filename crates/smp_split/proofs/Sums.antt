@@ -1,17 +1,12 @@
 -- The sum of the values, where they are numerators over one denominator.
 use Rattle.std.proofs.Common.{◌≡◌, ℕ, zero, suc, ◌+◌, ◌*◌, ◌<◌, ◌≤◌, List, length, get_or, arith, refl, sym, ap, ◌∙◌}
 use Rattle.std.specs.List.{sum, sum_by, range_with_len}
-use Rattle.std.proofs.lemmas.List.Sorted.{sum_by-IsPermutation}
-use Rattle.std.proofs.lemmas.List.Sums.{sum_by-cons}
+use Rattle.std.proofs.{lemmas.List.Sorted.{sum_by-IsPermutation}, lemmas.List.Sums.{sum_by-cons}}
 use Rattle.smp_frac.specs.Fractions.{Same, positive_one, whole, plus, times, over, sum_below}
 use Rattle.smp_frac.proofs.Arithmetic.{same_refl, same_sym, same_trans, plus_same, one-times, sum_same}
 use Rattle.smp_frac.proofs.Over.{zero-over, over_plus, over_from_cross, cross_from_over}
-use Rattle.smp_split.specs.Counts.{AddsUp}
-use Rattle.smp_split.specs.Means.{value_sum}
-use Rattle.smp_split.specs.Orders.{Placing, Ordered, IsPlacing, ordered_tree}
-use Rattle.smp_split.specs.Trees.{Tree}
-use Rattle.smp_split.proofs.Counts.{sum_by-indices}
-use Rattle.smp_split.proofs.Orders.{length_places}
+use Rattle.smp_split.specs.{Counts.{AddsUp}, Means.{value_sum}, Orders.{Placing, Ordered, IsPlacing, ordered_tree}, Trees.{Tree}}
+use Rattle.smp_split.proofs.{Counts.{sum_by-indices}, Orders.{length_places}}
 
 -- ---- sums of numbers
 

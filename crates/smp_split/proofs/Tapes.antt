@@ -1,14 +1,9 @@
 -- A full tape is exactly the values of a path to a leaf: over a tape of these values the run comes to that leaf with nothing left.
 use Rattle.std.proofs.Common.{◌≡◌, ℕ, ◌+◌, ◌<◌, ◌≤◌, true, false, nat_lt, List, [], ◌∷◌, ◌++◌, length, Result, Ok, Err, arith, refl, sym, ap, subst, ◌∙◌, append_assoc, inl, inr}
-use Rattle.std.proofs.lemmas.Bool.{cases_Bool, ltb-false, lt-ltb}
-use Rattle.std.proofs.lemmas.List.{append-nil}
-use Rattle.smp_tape.specs.declared.draws.DrawFault.{DrawFault}
-use Rattle.smp_tape.specs.declared.draws.DrawFault.TheVariants.{Short, TooBig, Rejected}
-use Rattle.smp_tape.specs.Sources.{Drawn}
-use Rattle.smp_tape.specs.Tapes.{Values, tape_of_values, drawn_from, tape_next}
-use Rattle.smp_tape.specs.TapeSources.{tape_source}
-use Rattle.smp_split.specs.Trees.{Tree, Lawful, weight_sum, picked}
-use Rattle.smp_split.specs.Paths.{Entry, Leads, values_of, IsFull}
+use Rattle.std.proofs.{lemmas.Bool.{cases_Bool, ltb-false, lt-ltb}, lemmas.List.{append-nil}}
+use Rattle.smp_tape.specs.{declared.draws.DrawFault.{DrawFault}, declared.draws.DrawFault.TheVariants.{Short, TooBig, Rejected}}
+use Rattle.smp_tape.specs.{Sources.{Drawn}, Tapes.{Values, tape_of_values, drawn_from, tape_next}, TapeSources.{tape_source}}
+use Rattle.smp_split.specs.{Trees.{Tree, Lawful, weight_sum, picked}, Paths.{Entry, Leads, values_of, IsFull}}
 use Rattle.smp_split.specs.Runs.{leaf, stopped, run, Gives, IsLeaf, IsStop, IsOutcome}
 use Rattle.smp_split.proofs.Runs.{run_is, run_to_leaf}
 

@@ -1,13 +1,10 @@
 -- A part for each unit that passes a test.
 use Rattle.std.proofs.Common.{◌≡◌, ◌≢◌, ℕ, zero, suc, ◌+◌, ◌-◌, ◌<◌, ◌≤◌, Bool, true, false, cond, nat_eq, List, map, arith, refl, sym, ap, subst, ◌∙◌, inl, inr}
 use Rattle.std.specs.List.{filter, range_with_len, sum_by}
-use Rattle.std.proofs.lemmas.Bool.{cases_Bool, cases_eq, lt-ltb, le-ltb, eq-eqb, ne_eqb}
-use Rattle.std.proofs.lemmas.List.Sums.{sum_by-cons}
+use Rattle.std.proofs.{lemmas.Bool.{cases_Bool, cases_eq, lt-ltb, le-ltb, eq-eqb, ne_eqb}, lemmas.List.Sums.{sum_by-cons}}
 use Rattle.smp_frac.specs.Fractions.{Fraction, Same, whole, plus, times}
 use Rattle.smp_frac.proofs.Arithmetic.{same_refl, same_sym, same_trans, plus_same, times_same, plus-times, times-zero, zero-plus, zero-times}
-use Rattle.smp_split.specs.Trees.{Part, EachPart, weight_sum, picked, weighted}
-use Rattle.smp_split.specs.Parts.{unit_parts}
-use Rattle.smp_split.specs.Laws.Parts.{plus-whole}
+use Rattle.smp_split.specs.{Trees.{Part, EachPart, weight_sum, picked, weighted}, Parts.{unit_parts}, Laws.Parts.{plus-whole}}
 
 -- the sum over the numbers below n without one of them
 without-past : (f : ℕ → ℕ) (one : ℕ) (n i : ℕ) → one < i → sum_by (λ k. cond (nat_eq k one) 0 (f k)) (range_with_len i n) ≡ sum_by f (range_with_len i n)

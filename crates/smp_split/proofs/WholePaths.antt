@@ -1,17 +1,12 @@
 -- A path to a leaf is made of the stages' own paths.
 use Rattle.std.proofs.Common.{◌≡◌, ◌≢◌, ℕ, zero, suc, ◌<◌, ◌≤◌, true, false, cond, nat_eq, List, [], ◌∷◌, length, set, Some, arith, refl, sym, ap, subst, ◌∙◌, inl, inr}
 use Rattle.std.specs.List.{slice_get}
-use Rattle.std.proofs.lemmas.Bool.{cases_Bool, cases_eq, cases_lt, eq-eqb, ne_eqb}
-use Rattle.std.proofs.lemmas.Option.{same_Some, slice_get_within}
-use Rattle.smp_split.specs.Paths.{Entry, IsStep, Leads, AtEachLeaf}
-use Rattle.smp_split.specs.Trees.{Tree, Lawful, weight_sum, picked}
-use Rattle.smp_split.specs.declared.places.Seat.{Seat}
-use Rattle.smp_split.specs.declared.places.Stage.{Stage}
-use Rattle.smp_split.specs.StagePaths.{IsStagePath, joined, GoesByStages}
+use Rattle.std.proofs.{lemmas.Bool.{cases_Bool, cases_eq, cases_lt, eq-eqb, ne_eqb}, lemmas.Option.{same_Some, slice_get_within}}
+use Rattle.smp_split.specs.{Paths.{Entry, IsStep, Leads, AtEachLeaf}, Trees.{Tree, Lawful, weight_sum, picked}, declared.places.Seat.{Seat}}
+use Rattle.smp_split.specs.{declared.places.Stage.{Stage}, StagePaths.{IsStagePath, joined, GoesByStages}}
 use Rattle.smp_split.specs.Stages.{Progress, stage_parts, is_drawn, waits, next_stage, progress, staged_tree, IsStaged, IsUnderWay}
-use Rattle.smp_split.specs.Laws.Reads.{slice_get-set_same, slice_get-set_other}
+use Rattle.smp_split.specs.{Laws.Reads.{slice_get-set_same, slice_get-set_other}, Laws.Staged.{waiting, none_waits}}
 use Rattle.smp_split.specs.Laws.Turns.{read_is, drawn_same, done_where_drawn, next_waits}
-use Rattle.smp_split.specs.Laws.Staged.{waiting, none_waits}
 use Rattle.smp_split.proofs.Stepped.{GoesOn, goes_on, bound_is, Stepped, stepped}
 
 -- ---- joining parts

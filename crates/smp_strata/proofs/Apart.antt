@@ -1,23 +1,15 @@
 -- A row is apart where the first row of its psu is in another stratum, and no earlier row is apart.
 use Rattle.std.proofs.Common.{◌≡◌, ℕ, zero, suc, ◌+◌, ◌<◌, ◌≤◌, Bool, true, false, not, ◌&&◌, List, [], length, filter, get_or, Some, None, inl, inr, arith, refl, sym, ap, ◌∙◌}
-use Rattle.std.specs.List.{list_any, range_with_len}
-use Rattle.std.specs.Str.{bytes_eq}
-use Rattle.std.proofs.lemmas.Bool.{cases_Bool, true≢false, and_from, not_from_false}
-use Rattle.std.proofs.lemmas.List.{get_or-map}
-use Rattle.std.proofs.lemmas.List.Folds.{list_any_at}
-use Rattle.std.proofs.lemmas.List.FromFn.{length-range_with_len, get_or-range_with_len}
-use Rattle.std.proofs.lemmas.List.Sums.{passes_at_first}
-use Rattle.std.proofs.lemmas.Slice.Eq.{bytes_eq-Decides}
+use Rattle.std.specs.{List.{list_any, range_with_len}, Str.{bytes_eq}}
+use Rattle.std.proofs.{lemmas.Bool.{cases_Bool, true≢false, and_from, not_from_false}, lemmas.List.{get_or-map}}
+use Rattle.std.proofs.{lemmas.List.Folds.{list_any_at}, lemmas.List.FromFn.{length-range_with_len, get_or-range_with_len}}
+use Rattle.std.proofs.{lemmas.List.Sums.{passes_at_first}, lemmas.Slice.Eq.{bytes_eq-Decides}}
 use Rattle.smp_design.specs.declared.design.Second as second
 use Rattle.smp_frame.specs.declared.frame.Unit as unit
-use Rattle.smp_strata.specs.Clusters.{clusters, in_psu, psu_names, first_row}
-use Rattle.smp_strata.specs.Rows.{rows_of, psu_at, stratum_at}
-use Rattle.smp_strata.specs.Misfits.{first_apart, is_apart, when}
-use Rattle.smp_strata.specs.declared.misfit.Misfit.TheVariants.{UnitInTwo}
-use Rattle.smp_strata.proofs.Founds.{none_at, when_false}
+use Rattle.smp_strata.specs.{Clusters.{clusters, in_psu, psu_names, first_row}, Rows.{rows_of, psu_at, stratum_at}}
+use Rattle.smp_strata.specs.{Misfits.{first_apart, is_apart, when}, declared.misfit.Misfit.TheVariants.{UnitInTwo}}
+use Rattle.smp_strata.proofs.{Founds.{none_at, when_false}, Appearances.{same_text}, ClusterRows.{psu_within, number_at, not_empty}}
 use Rattle.smp_strata.specs.Kept.Layouts.{psu_number, homes_of}
-use Rattle.smp_strata.proofs.Appearances.{same_text}
-use Rattle.smp_strata.proofs.ClusterRows.{psu_within, number_at, not_empty}
 use Rattle.smp_strata.proofs.TextPlaces.{itself}
 
 -- the first element of a filtered range

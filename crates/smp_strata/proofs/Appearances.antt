@@ -1,11 +1,7 @@
 -- Texts that are taken in one after another, each once, are the distinct ones in order of first appearance.
 use Rattle.std.proofs.Common.{◌≡◌, ℕ, ◌+◌, Bool, true, false, cond, not, ◌&&◌, ◌||◌, List, [], ◌∷◌, ◌++◌, filter, refl, sym, ap, ◌∙◌, inl, inr, true≢false}
-use Rattle.std.specs.List.{list_any}
-use Rattle.std.specs.Str.{bytes_eq}
-use Rattle.std.specs.List.{position_or_len}
-use Rattle.std.proofs.lemmas.Bool.{cases_Bool}
-use Rattle.std.proofs.lemmas.Slice.Eq.{bytes_eq-Decides}
-use Rattle.std.proofs.lemmas.List.{append_assoc}
+use Rattle.std.specs.{List.{list_any, position_or_len}, Str.{bytes_eq}}
+use Rattle.std.proofs.{lemmas.Bool.{cases_Bool}, lemmas.Slice.Eq.{bytes_eq-Decides}, lemmas.List.{append_assoc}}
 use Rattle.std.proofs.lemmas.List.Folds.{list_any-append}
 use Rattle.smp_strata.specs.Appearances.{distinct}
 

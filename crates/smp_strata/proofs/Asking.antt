@@ -1,36 +1,26 @@
 -- The plan of a frame that serves a design: it is sound, and gives each row the probability that is asked for it.
 use Rattle.std.proofs.Common.{◌≡◌, ℕ, ◌+◌, ◌<◌, List, [], ◌∷◌, length, get_or, Option, Some, None, arith, refl, sym, ap, ◌∙◌}
-use Rattle.std.specs.Prelude.{All, IsTrue, slice_get, option_map}
-use Rattle.std.specs.List.{range_with_len, position_or_len}
-use Rattle.std.specs.Str.{bytes_eq}
-use Rattle.std.proofs.lemmas.List.{get_or-map, length-map}
-use Rattle.std.proofs.lemmas.List.Elements.{All-map}
+use Rattle.std.specs.{Prelude.{All, IsTrue, slice_get, option_map}, List.{range_with_len, position_or_len}, Str.{bytes_eq}}
+use Rattle.std.proofs.{lemmas.List.{get_or-map, length-map}, lemmas.List.Elements.{All-map}}
 use Rattle.std.proofs.lemmas.List.FromFn.{length-range_with_len, get_or-range_with_len, get_or-map-range_with_len, length-map-range_with_len}
 use Rattle.std.proofs.lemmas.Option.{slice_get-map, slice_get_within, get_or_from_slice_get}
 use Rattle.smp_frac.specs.Fractions.{Same}
 use Rattle.smp_frac.proofs.Arithmetic.{times_same}
 use Rattle.smp_values.specs.Starts.{DrawsWhole}
-use Rattle.smp_design.specs.declared.design.Design.{Design}
-use Rattle.smp_design.specs.Words.{row}
+use Rattle.smp_design.specs.{declared.design.Design.{Design}, Words.{row}}
 use Rattle.smp_design.specs.declared.design.Second as second
 use Rattle.smp_frame.specs.declared.frame.Unit as unit
 use Rattle.smp_prob.specs.Inclusions.{asked_fraction}
-use Rattle.smp_strata.specs.Asked.{cluster_of, fraction_by, fraction_in_psu, fraction_in_stratum, row_fraction}
-use Rattle.smp_strata.specs.Bounds.{AreSeated, IsStratum}
-use Rattle.smp_strata.specs.Draws.{DrawsInStratum}
-use Rattle.smp_strata.specs.Clusters.{clusters, clusters_in, first_row, stratum_names, stratum_number}
-use Rattle.smp_strata.specs.Misfits.{unit_in_two}
-use Rattle.smp_strata.specs.Plans.{first_of, second_request, second_sizes, stratum_of}
-use Rattle.smp_strata.specs.Rows.{second_size_at, stratum_at, value_of}
-use Rattle.smp_strata.specs.Seats.{IsSeat, seat_fraction, stage_fraction}
+use Rattle.smp_strata.specs.{Asked.{cluster_of, fraction_by, fraction_in_psu, fraction_in_stratum, row_fraction}, Draws.{DrawsInStratum}}
+use Rattle.smp_strata.specs.{Bounds.{AreSeated, IsStratum}, Clusters.{clusters, clusters_in, first_row, stratum_names, stratum_number}}
+use Rattle.smp_strata.specs.{Misfits.{unit_in_two}, Plans.{first_of, second_request, second_sizes, stratum_of}, Kept.Groups.{places_of}}
+use Rattle.smp_strata.specs.{Rows.{second_size_at, stratum_at, value_of}, Seats.{IsSeat, seat_fraction, stage_fraction}}
 use Rattle.smp_strata.specs.declared.strata.FirstUnit as first
 use Rattle.smp_strata.specs.declared.strata.Seat as seat
 use Rattle.smp_strata.specs.declared.strata.Stratum as stratum
 use Rattle.smp_strata.specs.Kept.Built.{AreBuilt, AreSeats, SecondAsks, second_method, seat_by}
-use Rattle.smp_strata.specs.Kept.Groups.{places_of}
 use Rattle.smp_strata.specs.Kept.Layouts.{AreRows, AreGroups, homes_of}
-use Rattle.smp_strata.proofs.Apart.{home_is, together}
-use Rattle.smp_strata.proofs.Members.{home_at, homes, members_are}
+use Rattle.smp_strata.proofs.{Apart.{home_is, together}, Members.{home_at, homes, members_are}}
 use Rattle.smp_strata.proofs.Seating.{are_seats, home_within, place_is, seat_fraction_is, seat_only, stratum_at_home, stratum_is, unit_is}
 
 -- the cluster of a row, by its number

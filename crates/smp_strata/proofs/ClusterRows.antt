@@ -1,23 +1,15 @@
 -- The first stage units of a frame and their strata, by the numbers that the code keeps.
 use Rattle.std.proofs.Common.{◌≡◌, ℕ, zero, suc, ◌+◌, ◌<◌, ◌≤◌, Bool, true, nat_eq, List, [], ◌∷◌, length, map, filter, get_or, Option, Some, None, inl, inr, arith, refl, sym, ap, ◌∙◌}
-use Rattle.std.specs.Prelude.{All, slice_get}
-use Rattle.std.specs.List.{list_any, range_with_len}
-use Rattle.std.specs.Str.{bytes_eq}
-use Rattle.std.proofs.lemmas.Bool.{cases_Bool, true≢false}
-use Rattle.std.proofs.lemmas.List.{get_or-map, length-map}
-use Rattle.std.proofs.lemmas.List.Elements.{All-map, All-filter, All-from_get_or}
-use Rattle.std.proofs.lemmas.List.Folds.{list_any_at}
+use Rattle.std.specs.{Prelude.{All, slice_get}, List.{list_any, range_with_len}, Str.{bytes_eq}}
+use Rattle.std.proofs.{lemmas.Bool.{cases_Bool, true≢false}, lemmas.List.{get_or-map, length-map}, lemmas.List.Folds.{list_any_at}}
+use Rattle.std.proofs.{lemmas.List.Elements.{All-map, All-filter, All-from_get_or}, lemmas.List.Sums.{length-filter, count_by-le-length}}
 use Rattle.std.proofs.lemmas.List.FromFn.{fill_by_all, length-range_with_len, get_or-range_with_len, get_or-map-range_with_len, length-map-range_with_len}
-use Rattle.std.proofs.lemmas.List.Sums.{length-filter, count_by-le-length}
 use Rattle.smp_frac.specs.Limits.{most_rows}
 use Rattle.smp_design.specs.declared.design.Second as second
 use Rattle.smp_frame.specs.declared.frame.Unit as unit
-use Rattle.smp_strata.specs.Clusters.{clusters, in_psu, psu_names, stratum_names, stratum_number, first_row}
-use Rattle.smp_strata.specs.Rows.{rows_of, psu_at}
-use Rattle.smp_strata.specs.Kept.Groups.{places_of}
-use Rattle.smp_strata.specs.Kept.Layouts.{AreGroups, AreRows, psu_number, strata_homes}
-use Rattle.smp_strata.proofs.Totals.{map_twice}
-use Rattle.smp_strata.proofs.Ranges.{map_range_ext, filter_range_ext, map_by_places, one_place}
+use Rattle.smp_strata.specs.{Clusters.{clusters, in_psu, psu_names, stratum_names, stratum_number, first_row}, Rows.{rows_of, psu_at}}
+use Rattle.smp_strata.specs.{Kept.Groups.{places_of}, Kept.Layouts.{AreGroups, AreRows, psu_number, strata_homes}}
+use Rattle.smp_strata.proofs.{Totals.{map_twice}, Ranges.{map_range_ext, filter_range_ext, map_by_places, one_place}}
 use Rattle.smp_strata.proofs.TextPlaces.{itself, once, there, any_distinct, places_by_name}
 
 pub map_ext : {A B : Type 0} (f g : A → B) (xs : List A) → All (λ x. f x ≡ g x) xs → map f xs ≡ map g xs

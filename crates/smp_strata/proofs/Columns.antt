@@ -1,9 +1,7 @@
 -- Balancing values in columns: what is read, and sums that are within the limit.
 use Rattle.std.proofs.Common.{◌≡◌, ℕ, ◌+◌, ◌<◌, ◌^◌, Bool, true, false, List, [], length, map, get_or, nat_le, nat_abs, ℤ, pos, neg_ℤ, ◌≤ℤ◌, ◌+ℤ◌, ◌*◌, SFits, to_z, of_z, w32, w64, arith, refl, sym, ap, ◌∙◌}
 use Rattle.std.specs.List.{list_any, range_with_len}
-use Rattle.std.proofs.lemmas.Bool.{or_parts, or_right, leb-false}
-use Rattle.std.proofs.lemmas.Int.{ints, to_z-of_z}
-use Rattle.std.proofs.lemmas.List.{get_or-map}
+use Rattle.std.proofs.{lemmas.Bool.{or_parts, or_right, leb-false}, lemmas.Int.{ints, to_z-of_z}, lemmas.List.{get_or-map}}
 use Rattle.std.proofs.lemmas.List.Folds.{list_any_at, list_any-append}
 use Rattle.std.proofs.lemmas.List.FromFn.{get_or-map-range_with_len, length-map-range_with_len, map-range_with_len_more}
 use Rattle.smp_frac.specs.Limits.{most_rows}

@@ -1,11 +1,8 @@
 -- No two strata have the same key.
 use Rattle.std.proofs.Common.{◌≡◌, ◌≢◌, ℕ, zero, suc, ◌+◌, ◌-◌, ◌*◌, ◌<◌, ◌≤◌, cond, nat_eq, List, length, map, get_or, inl, inr, arith, refl, sym, ◌∙◌}
-use Rattle.std.specs.Prelude.{count_by}
-use Rattle.std.specs.List.{range_with_len}
-use Rattle.std.proofs.lemmas.Bool.{cases_eq, eq-eqb, ne_eqb}
-use Rattle.std.proofs.lemmas.List.Sums.{sum_by-cons}
-use Rattle.smp_strata.specs.Allocations.{remainder}
-use Rattle.smp_strata.specs.Kept.Keys.{key, keys}
+use Rattle.std.specs.{Prelude.{count_by}, List.{range_with_len}}
+use Rattle.std.proofs.{lemmas.Bool.{cases_eq, eq-eqb, ne_eqb}, lemmas.List.Sums.{sum_by-cons}}
+use Rattle.smp_strata.specs.{Allocations.{remainder}, Kept.Keys.{key, keys}}
 
 none_equal : (f : ℕ → ℕ) (v a m : ℕ) → ((k : ℕ) → a ≤ k → k < a + m → v ≢ f k) → count_by (nat_eq v) (map f (range_with_len a m)) ≡ 0
 none_equal f v a zero h = refl

@@ -1,20 +1,12 @@
 -- How many first stage units are expected of a stratum.
-use Rattle.std.proofs.Common.{◌≡◌, ℕ, List, [], length, get_or, Option, Some, None, arith, ap, ◌∙◌}
+use Rattle.std.proofs.{Common.{◌≡◌, ℕ, List, [], length, get_or, Option, Some, None, arith, ap, ◌∙◌}, lemmas.List.{get_or-map, length-map}}
 use Rattle.std.specs.Prelude.{IfSome}
-use Rattle.std.proofs.lemmas.List.{get_or-map, length-map}
-use Rattle.smp_frac.specs.Fractions.{Same, sum_below, whole}
+use Rattle.smp_frac.specs.{Fractions.{Same, sum_below, whole}, declared.fractions.Frac.{Frac}, Exact.{fraction}}
 use Rattle.smp_frac.proofs.Arithmetic.{sum_same}
-use Rattle.smp_frac.specs.declared.fractions.Frac.{Frac}
-use Rattle.smp_frac.specs.Exact.{fraction}
-use Rattle.smp_prob.specs.Given.{expected_size, given_fraction}
-use Rattle.smp_prob.specs.Inclusions.{asked_fraction}
-use Rattle.smp_prob.specs.declared.requests.Request.{Request}
+use Rattle.smp_prob.specs.{Given.{expected_size, given_fraction}, Inclusions.{asked_fraction}, declared.requests.Request.{Request}}
 use Rattle.smp_design.specs.declared.design.Design.{Design}
 use Rattle.smp_frame.specs.declared.frame.Unit as unit
-use Rattle.smp_strata.specs.Clusters.{clusters_in, first_row}
-use Rattle.smp_strata.specs.Plans.{first_probs}
-use Rattle.smp_strata.specs.Rows.{prob_at}
-use Rattle.smp_strata.specs.Kept.Built.{FirstAsks}
+use Rattle.smp_strata.specs.{Clusters.{clusters_in, first_row}, Plans.{first_probs}, Rows.{prob_at}, Kept.Built.{FirstAsks}}
 
 -- with given probabilities, those of the request add up to the expected size
 pub given_size : (design : Design) (units : List unit.Unit) (k : ℕ) (request : Request) (prob : Option (List ℕ)) → design.columns.prob ≡ prob → FirstAsks design units k request

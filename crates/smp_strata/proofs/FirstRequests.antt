@@ -1,41 +1,24 @@
 -- The request over the first stage units of a stratum.
 use Rattle.std.proofs.Common.{◌≡◌, ℕ, zero, suc, ◌+◌, ◌*◌, ◌<◌, ◌≤◌, ◌==◌, pos, true, false, not, Bool, List, [], ◌∷◌, length, map, filter, get_or, true≢false, nat_eq, nat_lt, Option, Some, None, inl, inr, arith, refl, sym, ap, subst, ◌∙◌}
-use Rattle.std.specs.Prelude.{All, IsSome, IsTrue, OnSome}
-use Rattle.std.specs.List.{list_any}
-use Rattle.std.specs.Str.{bytes_eq}
-use Rattle.std.proofs.lemmas.Bool.{cases_Bool, eqb-false, eqb-true, ltb-false}
-use Rattle.std.proofs.lemmas.List.{get_or-map, length-map}
-use Rattle.std.proofs.lemmas.List.Folds.{list_any_at}
-use Rattle.std.proofs.lemmas.List.Elements.{All-filter, All-map}
+use Rattle.std.specs.{Prelude.{All, IsSome, IsTrue, OnSome}, List.{list_any}, Str.{bytes_eq}}
+use Rattle.std.proofs.{lemmas.Bool.{cases_Bool, eqb-false, eqb-true, ltb-false}, lemmas.List.{get_or-map, length-map}}
+use Rattle.std.proofs.{lemmas.List.Folds.{list_any_at}, lemmas.List.Elements.{All-filter, All-map}}
 use Rattle.std.proofs.lemmas.List.Sums.{count_by-le-length, length-filter}
-use Rattle.smp_frac.specs.Bounds.{absolute}
-use Rattle.smp_frac.specs.Fractions.{Fraction, Same, sum_below, whole}
-use Rattle.smp_frac.proofs.Arithmetic.{same_sym, same_trans}
-use Rattle.smp_frac.specs.Limits.{most_rows}
-use Rattle.smp_frac.specs.declared.fractions.Frac.{Frac}
-use Rattle.smp_frac.specs.Exact.{fraction}
-use Rattle.smp_frac.proofs.Unique.{same_frac}
+use Rattle.smp_frac.specs.{Bounds.{absolute}, Fractions.{Fraction, Same, sum_below, whole}, Limits.{most_rows}, Exact.{fraction}}
+use Rattle.smp_frac.proofs.{Arithmetic.{same_sym, same_trans}, Unique.{same_frac}, LowestTerms.{lowest_terms-value}}
+use Rattle.smp_frac.specs.{declared.fractions.Frac.{Frac}, LowestTerms.{lowest_terms}}
 use Rattle.smp_frame.specs.Bounds.{IsFrame}
-use Rattle.smp_frac.specs.LowestTerms.{lowest_terms}
-use Rattle.smp_frac.proofs.LowestTerms.{lowest_terms-value}
-use Rattle.smp_prob.specs.Given.{AreGiven, IsWholeNumber, expected_size, given_fraction, given_of}
-use Rattle.smp_design.specs.Bounds.{HasOnlyProbabilities, IsDesign}
-use Rattle.smp_design.specs.Words.{row}
-use Rattle.smp_design.specs.declared.design.Design.{Design}
+use Rattle.smp_prob.specs.{Given.{AreGiven, IsWholeNumber, expected_size, given_fraction, given_of}, declared.requests.Request.{Request}}
+use Rattle.smp_design.specs.{Bounds.{HasOnlyProbabilities, IsDesign}, Words.{row}, declared.design.Design.{Design}}
 use Rattle.smp_frame.specs.declared.frame.Unit as unit
 use Rattle.smp_strata.specs.declared.strata.Stratum as stratum
-use Rattle.smp_prob.specs.declared.requests.Request.{Request}
 use Rattle.smp_prob.specs.Requested.{positive_units}
-use Rattle.smp_strata.specs.Clusters.{clusters, clusters_in, stratum_names, stratum_name, first_row}
-use Rattle.smp_strata.specs.Misfits.{no_size, not_whole, short, sum_of, unwhole, when}
+use Rattle.smp_strata.specs.{Clusters.{clusters, clusters_in, stratum_names, stratum_name, first_row}, Kept.Layouts.{AreRows}}
+use Rattle.smp_strata.specs.{Misfits.{no_size, not_whole, short, sum_of, unwhole, when}, Rows.{prob_at, rows_of, size_of, stratum_at}}
 use Rattle.smp_strata.specs.Plans.{first_probs, first_sizes, request_by, sample_size}
 use Rattle.smp_strata.specs.declared.misfit.Misfit.TheVariants.{NoSize, NotWhole, TooMany}
-use Rattle.smp_strata.specs.Rows.{prob_at, rows_of, size_of, stratum_at}
 use Rattle.smp_strata.specs.Kept.Built.{IsFirstRequest, IsGivenRequest, IsSizedRequest}
-use Rattle.smp_strata.proofs.ClusterRows.{any_by_places, strata}
-use Rattle.smp_strata.proofs.Founds.{none_at, when_false}
-use Rattle.smp_strata.proofs.Members.{count_all}
-use Rattle.smp_strata.specs.Kept.Layouts.{AreRows}
+use Rattle.smp_strata.proofs.{ClusterRows.{any_by_places, strata}, Founds.{none_at, when_false}, Members.{count_all}}
 use Rattle.smp_strata.proofs.TextPlaces.{any_distinct, itself}
 
 module _ (design : Design) (units : List unit.Unit) where

@@ -1,19 +1,13 @@
 -- What is known of the first stage unit of some rows.
 use Rattle.std.proofs.Common.{◌≡◌, ℕ, ◌<◌, ℤ, false, List, [], length, map, get_or, Option, Some, None, All, refl, arith}
 use Rattle.std.specs.Prelude.{IfSome, is_some, option_map}
-use Rattle.std.proofs.lemmas.List.{length-map}
-use Rattle.std.proofs.lemmas.List.Elements.{All-get_or, All-map}
+use Rattle.std.proofs.{lemmas.List.{length-map}, lemmas.List.Elements.{All-get_or, All-map}}
 use Rattle.smp_frame.specs.Bounds.{AreNear, HavePoints, IsFrame}
 use Rattle.smp_design.specs.declared.design.Design.{Design}
 use Rattle.smp_design.specs.declared.design.Second as second
 use Rattle.smp_frame.specs.declared.frame.Unit as unit
-use Rattle.smp_strata.specs.Bounds.{DrawsWholeOver}
-use Rattle.smp_strata.specs.Clusters.{first_row}
-use Rattle.smp_strata.specs.Draws.{SecondDraws}
-use Rattle.smp_strata.specs.Plans.{second_request, second_sizes}
-use Rattle.smp_strata.specs.Rows.{is_large, second_size_at}
-use Rattle.smp_strata.specs.Kept.Built.{IsBuiltFirst, IsSizedRequest, SecondAsks}
-use Rattle.smp_strata.specs.Kept.Layouts.{AreRows}
+use Rattle.smp_strata.specs.{Bounds.{DrawsWholeOver}, Clusters.{first_row}, Draws.{SecondDraws}, Plans.{second_request, second_sizes}}
+use Rattle.smp_strata.specs.{Rows.{is_large, second_size_at}, Kept.Built.{IsBuiltFirst, IsSizedRequest, SecondAsks}, Kept.Layouts.{AreRows}}
 use Rattle.smp_strata.proofs.Columns.{small_values}
 
 module _ (units : List unit.Unit) (rows : List ℕ) where

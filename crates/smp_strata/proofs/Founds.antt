@@ -1,9 +1,7 @@
 -- The first that is found: in a list, and over numbers from 0 on.
 use Rattle.std.proofs.Common.{◌≡◌, ℕ, zero, suc, ◌+◌, ◌<◌, ◌≤◌, Bool, true, false, List, [], ◌∷◌, ◌++◌, drop, get_or, length, Option, Some, None, inl, inr, arith, refl, sym, ap, ◌∙◌}
-use Rattle.std.specs.Prelude.{All}
-use Rattle.std.specs.List.{range_with_len}
-use Rattle.std.proofs.lemmas.Bool.{cases_eq}
-use Rattle.std.proofs.lemmas.List.{at_drop_more}
+use Rattle.std.specs.{Prelude.{All}, List.{range_with_len}}
+use Rattle.std.proofs.{lemmas.Bool.{cases_eq}, lemmas.List.{at_drop_more}}
 use Rattle.smp_design.specs.Keys.{or_else}
 use Rattle.smp_strata.specs.Misfits.{first_found, when}
 use Rattle.smp_strata.proofs.Ranges.{range_more}

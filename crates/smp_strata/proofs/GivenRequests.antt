@@ -2,8 +2,7 @@
 use Rattle.std.proofs.Common.{◌≡◌, ℕ, ◌<◌, ◌≤◌, true, true≢false, List, None, Err, Result, is_ok, nat_lt, inl, inr, ap, refl, sym, ◌∙◌}
 use Rattle.std.proofs.lemmas.Bool.{cases_lt, le-ltb, lt-ltb}
 use Rattle.smp_frac.specs.declared.fractions.Frac.{Frac}
-use Rattle.smp_prob.specs.Given.{common_multiple, largest_multiple}
-use Rattle.smp_prob.specs.declared.faults.GivenFault.{GivenFault}
+use Rattle.smp_prob.specs.{Given.{common_multiple, largest_multiple}, declared.faults.GivenFault.{GivenFault}}
 use Rattle.smp_prob.specs.declared.faults.GivenFault.TheVariants.{Denominator, NoMemory}
 use Rattle.smp_prob.specs.declared.probabilities.GivenRequest.{GivenRequest}
 use Rattle.smp_strata.specs.Misfits.{when}

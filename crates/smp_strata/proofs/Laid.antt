@@ -1,17 +1,12 @@
 -- What a layout says of its strata, as the functions that go by it read them.
-use Rattle.std.proofs.Common.{◌≡◌, ℕ, ◌<◌, ◌≤◌, List, [], length, get_or, rules, arith, ◌∙◌, ap}
-use Rattle.std.specs.Prelude.{All, map}
-use Rattle.std.specs.Vec.{vec_len}
-use Rattle.std.proofs.lemmas.List.{get_or_default}
+use Rattle.std.proofs.{Common.{◌≡◌, ℕ, ◌<◌, ◌≤◌, List, [], length, get_or, rules, arith, ◌∙◌, ap}, lemmas.List.{get_or_default}}
+use Rattle.std.specs.{Prelude.{All, map}, Vec.{vec_len}}
 use Rattle.smp_frac.specs.Limits.{most_rows}
 use Rattle.smp_frame.specs.declared.frame.Unit as unit
 use Rattle.smp_design.specs.declared.design.Design.{Design}
-use Rattle.smp_strata.specs.Clusters.{clusters, stratum_name, stratum_names}
-use Rattle.smp_strata.specs.Plans.{cluster_counts, first_probs, first_sizes, sample_size, sample_sizes}
-use Rattle.smp_strata.specs.Rows.{size_of}
-use Rattle.smp_strata.specs.Kept.Groups.{places_of}
+use Rattle.smp_strata.specs.{Clusters.{clusters, stratum_name, stratum_names}, Rows.{size_of}, Kept.Groups.{places_of}}
+use Rattle.smp_strata.specs.{Plans.{cluster_counts, first_probs, first_sizes, sample_size, sample_sizes}, declared.layout.Strata.{Strata}}
 use Rattle.smp_strata.specs.Kept.Layouts.{AreGroups, AreRows, IsLaidOut, prob_of}
-use Rattle.smp_strata.specs.declared.layout.Strata.{Strata}
 use Rattle.smp_strata.proofs.Members.{few_members, group_of, homes, length_samples, lengths_are, places_within, probs_are, sizes_are}
 use Rattle.smp_strata.proofs.Totals.{how_many}
 

@@ -1,31 +1,21 @@
 -- The first stage units of a stratum, by their numbers.
 use Rattle.std.proofs.Common.{◌≡◌, ℕ, ◌<◌, ◌≤◌, ◌^◌, false, Option, Some, None, List, [], ◌∷◌, length, map, filter, get_or, arith, sym, ap, ◌∙◌}
-use Rattle.std.specs.Prelude.{All, sum}
-use Rattle.std.specs.List.{range_with_len, position_or_len}
-use Rattle.std.specs.Str.{bytes_eq}
-use Rattle.std.proofs.lemmas.List.{get_or-map, length-map}
-use Rattle.std.proofs.lemmas.List.Elements.{All-filter}
+use Rattle.std.specs.{Prelude.{All, sum}, List.{range_with_len, position_or_len}, Str.{bytes_eq}}
+use Rattle.std.proofs.{lemmas.List.{get_or-map, length-map}, lemmas.List.Elements.{All-filter}}
 use Rattle.std.proofs.lemmas.List.Sums.{get_or-le-sum_by, sum-map}
 use Rattle.std.proofs.lemmas.List.FromFn.{get_or-map-range_with_len, length-map-range_with_len}
-use Rattle.smp_frac.specs.declared.fractions.Frac.{Frac}
-use Rattle.smp_frac.specs.Limits.{most_rows}
+use Rattle.smp_frac.specs.{declared.fractions.Frac.{Frac}, Limits.{most_rows}}
 use Rattle.smp_design.specs.declared.design.Second as second
 use Rattle.smp_design.specs.declared.design.Design.{Design}
 use Rattle.smp_frame.specs.declared.frame.Unit as unit
 use Rattle.smp_strata.specs.Clusters.{clusters, clusters_in, in_psu, psu_names, stratum_names, stratum_name, stratum_number, first_row}
-use Rattle.smp_strata.specs.Plans.{cluster_counts, first_probs, first_sizes, quota_of, sample_sizes, sizes_by}
-use Rattle.smp_strata.specs.Rows.{prob_at, stratum_at, psu_at, size_of, is_large}
-use Rattle.smp_strata.specs.Kept.Groups.{places_of}
+use Rattle.smp_strata.specs.{Plans.{cluster_counts, first_probs, first_sizes, quota_of, sample_sizes, sizes_by}, Kept.Groups.{places_of}}
+use Rattle.smp_strata.specs.{Rows.{prob_at, stratum_at, psu_at, size_of, is_large}, declared.misfit.Misfit.TheVariants.{PsuTooLarge}}
 use Rattle.smp_strata.specs.Kept.Layouts.{AreRows, AreGroups, prob_of, strata_homes}
 use Rattle.smp_strata.specs.Misfits.{first_found, large, psu_too_large, sum_of, unwhole}
-use Rattle.smp_strata.specs.declared.misfit.Misfit.TheVariants.{PsuTooLarge}
-use Rattle.smp_strata.proofs.Columns.{small_size}
-use Rattle.smp_strata.proofs.Founds.{found_ext, none_each, when_false}
-use Rattle.smp_strata.proofs.Rule.{paired}
-use Rattle.smp_strata.proofs.Ranges.{map_range_ext, filter_range_ext, filter_by_places}
-use Rattle.smp_strata.proofs.TextPlaces.{once, places_by_name}
-use Rattle.smp_strata.proofs.ClusterRows.{map_ext, below, stratum_within, psu_within, strata, psus}
-use Rattle.smp_strata.proofs.Totals.{map_twice, total, fewer}
+use Rattle.smp_strata.proofs.{Columns.{small_size}, Founds.{found_ext, none_each, when_false}, Rule.{paired}}
+use Rattle.smp_strata.proofs.{Ranges.{map_range_ext, filter_range_ext, filter_by_places}, TextPlaces.{once, places_by_name}}
+use Rattle.smp_strata.proofs.{ClusterRows.{map_ext, below, stratum_within, psu_within, strata, psus}, Totals.{map_twice, total, fewer}}
 
 -- how many first stage units there are
 pub count_all : (second : Option second.Second) (units : List unit.Unit) → length (clusters second units) ≤ length units

@@ -1,14 +1,11 @@
 -- The first misfit by its kind.
 use Rattle.std.proofs.Common.{◌≡◌, ℕ, List, Option, Some, None, Err, ap, refl, sym, ◌∙◌}
 use Rattle.std.specs.Prelude.{OnSome}
-use Rattle.smp_design.specs.Keys.{or_else}
-use Rattle.smp_design.specs.Bounds.{HasOnlyProbabilities, IsDesign}
-use Rattle.smp_design.specs.declared.design.Design.{Design}
+use Rattle.smp_design.specs.{Keys.{or_else}, Bounds.{HasOnlyProbabilities, IsDesign}, declared.design.Design.{Design}}
 use Rattle.smp_frame.specs.declared.frame.Unit as unit
 use Rattle.smp_strata.specs.Misfits.{Reports, misfit_by, misfit_of, no_size, probs_misfit, psu_too_large, row_limit, second_too_many, too_many, unit_in_two}
-use Rattle.smp_strata.specs.declared.misfit.Misfit.{Misfit}
+use Rattle.smp_strata.specs.{declared.misfit.Misfit.{Misfit}, Kept.Built.{request_misfit}}
 use Rattle.smp_strata.specs.declared.misfit.Misfit.TheVariants.{UnitInTwo, PsuTooLarge, NoSize, TooMany, SecondTooMany, Denominator, NotWhole, RowLimit, NoMemory}
-use Rattle.smp_strata.specs.Kept.Built.{request_misfit}
 use Rattle.smp_strata.proofs.Founds.{neither, or_else_assoc}
 
 -- what is answered of one search is answered of another, where the same is found

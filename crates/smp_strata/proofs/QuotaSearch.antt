@@ -1,15 +1,9 @@
 -- The entry of a stratum among quotas in byte order of their names.
 use Rattle.std.proofs.Common.{◌≡◌, ℕ, zero, suc, ◌<◌, ◌≤◌, false, List, [], ◌∷◌, length, map, get_or, inl, inr, arith, refl, sym, ap, ◌∙◌}
-use Rattle.std.specs.List.{AllByRecursion}
-use Rattle.std.specs.List.Sorted.{IsStrictlySortedBy, IsNonDecreasingBy}
-use Rattle.std.specs.Ordering.{nat_cmp, is_eq, ordering_index, ordering_reverse}
-use Rattle.std.specs.declared.cmp.Ordering.{Ordering}
-use Rattle.std.specs.declared.cmp.Ordering.TheVariants.{Less, Equal, Greater}
-use Rattle.std.specs.Cmp.Lexicographic.{slice_cmp}
-use Rattle.std.specs.Str.{bytes_eq}
-use Rattle.std.proofs.lemmas.Bool.{cases_lt}
-use Rattle.std.proofs.lemmas.Cmp.{nat_list_cmp_total}
-use Rattle.std.proofs.lemmas.Map.Text.{is_eq-slice_cmp}
+use Rattle.std.specs.{List.{AllByRecursion}, List.Sorted.{IsStrictlySortedBy, IsNonDecreasingBy}, declared.cmp.Ordering.{Ordering}}
+use Rattle.std.specs.{Ordering.{nat_cmp, is_eq, ordering_index, ordering_reverse}, declared.cmp.Ordering.TheVariants.{Less, Equal, Greater}}
+use Rattle.std.specs.{Cmp.Lexicographic.{slice_cmp}, Str.{bytes_eq}}
+use Rattle.std.proofs.{lemmas.Bool.{cases_lt}, lemmas.Cmp.{nat_list_cmp_total}, lemmas.Map.Text.{is_eq-slice_cmp}}
 use Rattle.smp_design.specs.Bounds.{Ascend}
 use Rattle.smp_design.specs.declared.design.Quota as quota
 use Rattle.smp_strata.specs.Plans.{quota_of}

@@ -1,11 +1,9 @@
 -- The rank of a stratum, by the keys.
 use Rattle.std.proofs.Common.{◌≡◌, ℕ, zero, suc, ◌+◌, ◌-◌, ◌*◌, ◌<◌, ◌≤◌, Bool, cond, nat_lt, nat_le, ◌==◌, ◌&&◌, ◌||◌, List, length, map, get_or, inl, inr, arith, refl, ◌∙◌, ◌^◌}
-use Rattle.std.specs.Prelude.{count_by, sum}
-use Rattle.std.specs.List.{range_with_len}
+use Rattle.std.specs.{Prelude.{count_by, sum}, List.{range_with_len}}
 use Rattle.std.proofs.lemmas.Bool.{cases_Bool, ltb-true, ltb-false, lt-ltb, le-ltb, eq-eqb, ne_eqb, cases_eq}
 use Rattle.std.proofs.lemmas.List.Sums.{sum_by-cons}
-use Rattle.smp_strata.specs.Allocations.{remainder, comes_before, rank, whole, left_over, share}
-use Rattle.smp_strata.specs.Kept.Keys.{key, keys}
+use Rattle.smp_strata.specs.{Allocations.{remainder, comes_before, rank, whole, left_over, share}, Kept.Keys.{key, keys}}
 
 same_count : (p : ℕ → Bool) (f : ℕ → ℕ) (test : ℕ → Bool) (a m : ℕ) → ((k : ℕ) → k < a + m → p (f k) ≡ test k)
     → count_by p (map f (range_with_len a m)) ≡ count_by test (range_with_len a m)

@@ -1,10 +1,8 @@
 -- Numbers of texts, by the places of the texts.
 use Rattle.std.proofs.Common.{◌≡◌, ℕ, List, [], ◌∷◌, length, map, get_or, refl, ap, ◌∙◌}
-use Rattle.std.specs.List.{position_or_len, range_with_len}
-use Rattle.std.specs.Str.{bytes_eq}
+use Rattle.std.specs.{List.{position_or_len, range_with_len}, Str.{bytes_eq}}
 use Rattle.smp_strata.specs.Appearances.{distinct}
-use Rattle.smp_strata.proofs.Ranges.{map_by_places}
-use Rattle.smp_strata.proofs.Texts.{Ref, texts}
+use Rattle.smp_strata.proofs.{Ranges.{map_by_places}, Texts.{Ref, texts}}
 
 map_texts : {A : Type 0} (f : List ℕ → A) (rs : List Ref) → map (λ (r : Ref). f r.now) rs ≡ map f (texts rs)
 map_texts f [] = refl

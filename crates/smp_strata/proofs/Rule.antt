@@ -1,10 +1,8 @@
 -- The allocation does what its rule says.
 use Rattle.std.proofs.Common.{◌≡◌, ◌⊎◌, ℕ, ◌+◌, ◌<◌, ◌≤◌, Bool, true, false, cond, nat_lt, ◌==◌, ◌&&◌, ◌||◌, List, length, get_or, inl, inr, arith, refl, sym, ap, ◌∙◌, true≢false}
-use Rattle.std.specs.Prelude.{sum}
-use Rattle.std.specs.List.{range_with_len}
+use Rattle.std.specs.{Prelude.{sum}, List.{range_with_len}}
 use Rattle.std.proofs.lemmas.Bool.{cases_Bool, cases_eq, cases_lt, ltb-true, ltb-false, lt-ltb, le-ltb, eq-eqb, ne_eqb}
-use Rattle.std.proofs.lemmas.List.FromFn.{get_or-map-range_with_len, length-map-range_with_len}
-use Rattle.std.proofs.lemmas.List.Sums.{sum_by-le-sum_by}
+use Rattle.std.proofs.{lemmas.List.FromFn.{get_or-map-range_with_len, length-map-range_with_len}, lemmas.List.Sums.{sum_by-le-sum_by}}
 use Rattle.smp_strata.specs.Allocations.{remainder, whole, left_over, comes_before, rank, share, allocation, GetsMore, GetsWhole, IsAllocation}
 
 -- k comes before h, by remainders

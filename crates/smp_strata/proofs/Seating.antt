@@ -1,24 +1,18 @@
 -- Each row stands at one seat of a plan, and gets the probability that is asked for it.
 use Rattle.std.proofs.Common.{◌≡◌, ℕ, zero, suc, ◌+◌, ◌<◌, ◌≤◌, Bool, true, List, [], ◌∷◌, length, map, filter, get_or, nat_eq, Option, Some, None, inl, inr, arith, refl, sym, ap, ◌∙◌}
-use Rattle.std.specs.Prelude.{All, slice_get, option_map}
-use Rattle.std.specs.List.{range_with_len}
-use Rattle.std.proofs.lemmas.Bool.{cases_Bool, eqb-true}
-use Rattle.std.proofs.lemmas.List.{length-map}
+use Rattle.std.specs.{Prelude.{All, slice_get, option_map}, List.{range_with_len}}
+use Rattle.std.proofs.{lemmas.Bool.{cases_Bool, eqb-true}, lemmas.List.{length-map}}
 use Rattle.std.proofs.lemmas.List.FromFn.{length-range_with_len, get_or-range_with_len, get_or-map-range_with_len}
 use Rattle.std.proofs.lemmas.Option.{slice_get-map, slice_get_within, slice_get-get_or, option_and_then_some, same_Some}
 use Rattle.smp_frac.specs.Fractions.{times}
 use Rattle.smp_design.specs.declared.design.Design.{Design}
 use Rattle.smp_frame.specs.declared.frame.Unit as unit
 use Rattle.smp_prob.specs.Inclusions.{asked_fraction}
-use Rattle.smp_strata.specs.Clusters.{clusters, clusters_in, stratum_names}
-use Rattle.smp_strata.specs.Plans.{first_of, stratum_of}
-use Rattle.smp_strata.specs.Seats.{IsSeat, seat_fraction, stage_fraction}
+use Rattle.smp_strata.specs.{Clusters.{clusters, clusters_in, stratum_names}, Plans.{first_of, stratum_of}, Kept.Built.{AreSeats, seat_by}}
+use Rattle.smp_strata.specs.{Seats.{IsSeat, seat_fraction, stage_fraction}, Kept.Groups.{places_of}, Kept.Layouts.{AreRows, AreGroups}}
 use Rattle.smp_strata.specs.declared.strata.FirstUnit as first
 use Rattle.smp_strata.specs.declared.strata.Seat as seat
 use Rattle.smp_strata.specs.declared.strata.Stratum as stratum
-use Rattle.smp_strata.specs.Kept.Built.{AreSeats, seat_by}
-use Rattle.smp_strata.specs.Kept.Groups.{places_of}
-use Rattle.smp_strata.specs.Kept.Layouts.{AreRows, AreGroups}
 use Rattle.smp_strata.proofs.Members.{homes, members_are}
 
 some_map : {A B : Type 0} (f : A → B) (o : Option A) (y : B) → option_map f o ≡ Some y → {P : Type 0} → ((x : A) → o ≡ Some x → f x ≡ y → P) → P

@@ -1,33 +1,22 @@
 -- The strata of a plan, as their first stage units are put in.
 use Rattle.std.proofs.Common.{◌≡◌, ℕ, ◌+◌, ◌<◌, ◌≤◌, ◌^◌, Bool, List, [], ◌∷◌, length, map, get_or, set, Option, None, Some, arith, refl, sym, ap, ◌∙◌}
-use Rattle.std.specs.Prelude.{All}
-use Rattle.std.specs.Str.{bytes_eq}
-use Rattle.std.proofs.lemmas.List.{get_or-map, length-map, map-append}
-use Rattle.std.proofs.lemmas.List.Elements.{All-filter, All-map}
-use Rattle.std.proofs.lemmas.List.FromFn.{get_or-map-range_with_len}
-use Rattle.std.proofs.lemmas.List.Sums.{length-filter, count_by-le-length}
+use Rattle.std.specs.{Prelude.{All}, Str.{bytes_eq}}
+use Rattle.std.proofs.{lemmas.List.{get_or-map, length-map, map-append}, lemmas.List.Elements.{All-filter, All-map}}
+use Rattle.std.proofs.{lemmas.List.FromFn.{get_or-map-range_with_len}, lemmas.List.Sums.{length-filter, count_by-le-length}}
 use Rattle.smp_frac.specs.Limits.{most_rows}
 use Rattle.smp_design.specs.declared.design.Design.{Design}
 use Rattle.smp_design.specs.declared.design.Second as second
 use Rattle.smp_frame.specs.declared.frame.Unit as unit
 use Rattle.smp_frame.specs.Bounds.{IsFrame}
-use Rattle.smp_strata.specs.Bounds.{IsFirst}
-use Rattle.smp_strata.specs.Clusters.{clusters, clusters_in, strata_numbers, stratum_names, stratum_name, first_row}
-use Rattle.smp_strata.specs.Draws.{SecondDraws}
-use Rattle.smp_strata.specs.Misfits.{first_found, second_too_many}
-use Rattle.smp_strata.specs.Plans.{first_of, request_by, second_sizes, stratum_of}
-use Rattle.smp_strata.specs.Rows.{second_size_at, stratum_at}
+use Rattle.smp_strata.specs.{Bounds.{IsFirst}, Clusters.{clusters, clusters_in, strata_numbers, stratum_names, stratum_name, first_row}}
+use Rattle.smp_strata.specs.{Draws.{SecondDraws}, Misfits.{first_found, second_too_many}, Rows.{second_size_at, stratum_at}}
+use Rattle.smp_strata.specs.{Plans.{first_of, request_by, second_sizes, stratum_of}, Kept.Groups.{places_below, places_of}}
 use Rattle.smp_strata.specs.declared.strata.FirstUnit as first
 use Rattle.smp_strata.specs.declared.strata.Stratum as stratum
 use Rattle.smp_strata.specs.Kept.Built.{IsBuilt, IsBuiltFirst, IsFirstRequest, second_method, second_short, so_far, with_unit}
-use Rattle.smp_strata.specs.Kept.Groups.{places_below, places_of}
 use Rattle.smp_strata.specs.Kept.Layouts.{AreRows}
-use Rattle.smp_strata.proofs.Expected.{given_size}
-use Rattle.smp_strata.proofs.Founds.{each_none}
-use Rattle.smp_strata.proofs.Grouped.{other_group, put_by, same_group}
-use Rattle.smp_strata.proofs.Members.{count_all, homes, members_are}
-use Rattle.smp_strata.proofs.Ranges.{map_range_ext}
-use Rattle.smp_strata.proofs.Totals.{map_twice}
+use Rattle.smp_strata.proofs.{Expected.{given_size}, Founds.{each_none}, Grouped.{other_group, put_by, same_group}, Ranges.{map_range_ext}}
+use Rattle.smp_strata.proofs.{Members.{count_all, homes, members_are}, Totals.{map_twice}}
 
 pub second_small : (units : List unit.Unit) (rows : List ℕ) → IsFrame units → All (λ row. row < length units) rows
     → (i : ℕ) → i < length (second_sizes units rows) → get_or (second_sizes units rows) i 0 < 2 ^ 31

@@ -1,14 +1,10 @@
 -- The request that is made for n of the units with some sizes, and when there is none.
 use Rattle.std.proofs.Common.{◌≡◌, ℕ, ◌<◌, ◌≤◌, Bool, true, true≢false, List, length, Result, Ok, Err, is_ok, inl, inr, refl, sym, ap, ◌∙◌}
-use Rattle.std.specs.Prelude.{IsOkUnless, count_by}
-use Rattle.std.specs.List.{range_with_len}
+use Rattle.std.specs.{Prelude.{IsOkUnless, count_by}, List.{range_with_len}}
 use Rattle.std.proofs.lemmas.Bool.{cases_lt}
-use Rattle.smp_prob.specs.Inclusions.{AreApart, AreBelow, IsRising, count_taken}
-use Rattle.smp_prob.specs.Requested.{positive_units, requested_of}
-use Rattle.smp_prob.specs.Requests.{IsRequest}
-use Rattle.smp_prob.specs.declared.faults.ProbFault.{ProbFault}
+use Rattle.smp_prob.specs.{Inclusions.{AreApart, AreBelow, IsRising, count_taken}, Requested.{positive_units, requested_of}}
+use Rattle.smp_prob.specs.{Requests.{IsRequest}, declared.faults.ProbFault.{ProbFault}, declared.requests.Request.{Request}}
 use Rattle.smp_prob.specs.declared.faults.ProbFault.TheVariants.{NoMemory, TooMany}
-use Rattle.smp_prob.specs.declared.requests.Request.{Request}
 use Rattle.smp_values.specs.Starts.{DrawsWhole}
 use Rattle.smp_strata.specs.Kept.Built.{Asks, IsSizedRequest}
 

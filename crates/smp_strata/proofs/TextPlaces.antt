@@ -1,16 +1,10 @@
 -- The distinct ones of some texts: each once, each text among them, and each of them among the texts.
 use Rattle.std.proofs.Common.{◌≡◌, ℕ, zero, suc, ◌<◌, Bool, true, false, not, nat_eq, List, [], ◌∷◌, length, filter, get_or, inl, inr, arith, refl, sym, ap, ◌∙◌}
-use Rattle.std.specs.Prelude.{AllPairs}
-use Rattle.std.specs.List.{list_any, range_with_len, position_or_len}
-use Rattle.std.specs.Str.{bytes_eq}
-use Rattle.std.proofs.lemmas.Bool.{cases_Bool, cases_order, eq-eqb, ne_eqb, not-true, true≢false}
-use Rattle.std.proofs.lemmas.List.Elements.{filter_passes, All-get_or}
-use Rattle.std.proofs.lemmas.List.Kept.{AllPairs-filter}
-use Rattle.std.proofs.lemmas.List.Sums.{passes_at_first}
-use Rattle.smp_strata.specs.Appearances.{distinct}
-use Rattle.smp_strata.specs.Kept.Groups.{places_of}
-use Rattle.smp_strata.proofs.Appearances.{same_text}
-use Rattle.smp_strata.proofs.Ranges.{filter_range_ext}
+use Rattle.std.specs.{Prelude.{AllPairs}, List.{list_any, range_with_len, position_or_len}, Str.{bytes_eq}}
+use Rattle.std.proofs.{lemmas.Bool.{cases_Bool, cases_order, eq-eqb, ne_eqb, not-true, true≢false}, lemmas.List.Kept.{AllPairs-filter}}
+use Rattle.std.proofs.{lemmas.List.Elements.{filter_passes, All-get_or}, lemmas.List.Sums.{passes_at_first}}
+use Rattle.smp_strata.specs.{Appearances.{distinct}, Kept.Groups.{places_of}}
+use Rattle.smp_strata.proofs.{Appearances.{same_text}, Ranges.{filter_range_ext}}
 use Rattle.std.proofs.lemmas.Slice.Eq.{bytes_eq-Decides}
 
 pub itself : (text : List ℕ) → bytes_eq text text ≡ true

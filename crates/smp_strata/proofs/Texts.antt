@@ -1,7 +1,6 @@
 -- Keys that are references to texts, as the texts.
 use Rattle.std.proofs.Common.{◌≡◌, ℕ, ◌+◌, Bool, true, false, cond, not, ◌||◌, List, [], ◌∷◌, ◌++◌, map, refl, ◌∙◌, ap, sym, ◌<◌, length, get_or, take, drop, Some, slice_get, Bor}
-use Rattle.std.specs.List.{list_any, position_or_len}
-use Rattle.std.specs.Str.{bytes_eq}
+use Rattle.std.specs.{List.{list_any, position_or_len}, Str.{bytes_eq}}
 use Rattle.std.proofs.lemmas.List.{map-append, drop_more, map_more}
 use Rattle.indexmap.specs.IndexSet.{insert_key}
 use Rattle.smp_strata.proofs.Appearances.{with_text, with_new, one_more, place_kept}

@@ -1,15 +1,10 @@
 -- The allocation gives all n units.
 use Rattle.std.proofs.Common.{◌≡◌, ℕ, zero, suc, ◌+◌, ◌-◌, ◌*◌, ◌/◌, ◌%◌, ◌<◌, ◌≤◌, Bool, cond, nat_lt, nat_le, nat_eq, ◌^◌, List, [], ◌∷◌, length, map, get_or, inl, inr, arith, refl, sym, ap, ◌∙◌}
-use Rattle.std.specs.Prelude.{count_by, sum_by, sum}
-use Rattle.std.specs.List.{range_with_len}
-use Rattle.std.proofs.lemmas.Bool.{cases_lt, le-ltb}
-use Rattle.std.proofs.lemmas.List.FromFn.{fill_by_all, length-map-range_with_len}
-use Rattle.std.proofs.lemmas.List.Sums.{sum_by-cons}
-use Rattle.std.proofs.lemmas.Nat.{div-add-mod', mod_below}
-use Rattle.smp_strata.specs.Allocations.{remainder, whole, left_over, rank, allocation}
-use Rattle.smp_strata.specs.Kept.Keys.{key, keys}
-use Rattle.smp_strata.proofs.Ranks.{key_rank}
-use Rattle.smp_strata.proofs.Distinct.{once}
+use Rattle.std.specs.{Prelude.{count_by, sum_by, sum}, List.{range_with_len}}
+use Rattle.std.proofs.{lemmas.Bool.{cases_lt, le-ltb}, lemmas.List.FromFn.{fill_by_all, length-map-range_with_len}}
+use Rattle.std.proofs.{lemmas.List.Sums.{sum_by-cons}, lemmas.Nat.{div-add-mod', mod_below}}
+use Rattle.smp_strata.specs.{Allocations.{remainder, whole, left_over, rank, allocation}, Kept.Keys.{key, keys}}
+use Rattle.smp_strata.proofs.{Ranks.{key_rank}, Distinct.{once}}
 
 -- the whole parts and the remainders
 parts : (n all : ℕ) (counts : List ℕ) → sum_by (whole n all) counts * all + sum_by (remainder n all) counts ≡ n * sum counts

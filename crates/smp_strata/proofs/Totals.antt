@@ -1,15 +1,9 @@
 -- Groups of places have as many places in all as there are numbers.
 use Rattle.std.proofs.Common.{◌≡◌, ℕ, zero, suc, ◌+◌, ◌<◌, ◌≤◌, cond, nat_eq, List, [], ◌∷◌, length, map, get_or, inl, inr, arith, refl, ap, ◌∙◌}
-use Rattle.std.specs.Prelude.{sum, not}
-use Rattle.std.specs.List.{range_with_len}
-use Rattle.std.specs.Str.{bytes_eq}
-use Rattle.std.proofs.lemmas.Bool.{cases_eq, eq-eqb, ne_eqb}
-use Rattle.std.proofs.lemmas.List.{length-append}
-use Rattle.std.proofs.lemmas.List.FromFn.{length-map-range_with_len}
+use Rattle.std.specs.{Prelude.{sum, not}, List.{range_with_len}, Str.{bytes_eq}}
+use Rattle.std.proofs.{lemmas.Bool.{cases_eq, eq-eqb, ne_eqb}, lemmas.List.{length-append}, lemmas.List.FromFn.{length-map-range_with_len}}
 use Rattle.std.proofs.lemmas.List.Sums.{sum_by-cons, length-filter, count_by-le-length}
-use Rattle.smp_strata.specs.Appearances.{distinct}
-use Rattle.smp_strata.specs.Kept.Groups.{places_below, places_of}
-use Rattle.smp_strata.specs.Kept.Layouts.{AreGroups}
+use Rattle.smp_strata.specs.{Appearances.{distinct}, Kept.Groups.{places_below, places_of}, Kept.Layouts.{AreGroups}}
 use Rattle.smp_strata.proofs.Grouped.{below_more}
 
 -- a number stands once in a range

@@ -1,15 +1,11 @@
 -- The first fractional units, and those from a place on.
 use Rattle.std.proofs.Common.{◌≡◌, ℕ, suc, ◌+◌, ◌-◌, ◌<◌, ◌≤◌, true, List, [], ◌∷◌, ◌++◌, length, get_or, arith, refl, sym, ap, ap₂, ◌∙◌, subst, inl, inr, length-append, length-take, get_or-take}
 use Rattle.std.specs.List.{AllPairs, filter, range_with_len}
-use Rattle.std.proofs.lemmas.List.Kept.{AllPairs-filter}
-use Rattle.std.proofs.lemmas.Bool.{cases_lt}
-use Rattle.std.proofs.lemmas.List.{get_or_append_left, get_or-append-add}
-use Rattle.std.proofs.lemmas.List.Elements.{filter-append}
-use Rattle.std.proofs.lemmas.List.FromFn.{length-range_with_len, get_or-range_with_len}
+use Rattle.std.proofs.{lemmas.List.Kept.{AllPairs-filter}, lemmas.Bool.{cases_lt}, lemmas.List.{get_or_append_left, get_or-append-add}}
+use Rattle.std.proofs.{lemmas.List.Elements.{filter-append}, lemmas.List.FromFn.{length-range_with_len, get_or-range_with_len}}
 use Rattle.smp_values.specs.Values.{fractional}
 use Rattle.smp_moves.proofs.Filtered.{filter_all, filter_twice}
-use Rattle.smp_stratcube.specs.declared.fronts.Front.{Front}
-use Rattle.smp_stratcube.specs.declared.values.Value.{Value}
+use Rattle.smp_stratcube.specs.{declared.fronts.Front.{Front}, declared.values.Value.{Value}}
 use Rattle.smp_stratcube.specs.Values.{fractional_count, fractional_units, is_fractional, value}
 use Rattle.smp_stratcube.specs.Kept.Fronts.{IsAhead, IsFilled, IsFront, IsStanding, front_units, units_on}
 use Rattle.smp_stratcube.specs.Laws.Units.{fractional_in, order_going, order_count}

@@ -1,17 +1,12 @@
 -- Where the columns of fractional units are independent in rows of strata alone, no two of the units are of one stratum.
 use Rattle.std.proofs.Common.{◌≡◌, ◌≢◌, ℕ, zero, suc, ◌<◌, ◌≤◌, true, nat_eq, cond, ℤ, pos, neg_ℤ, ◌+ℤ◌, ◌*ℤ◌, List, [], ◌∷◌, map, take, length, get_or, arith, refl, sym, ap, ap₂, ◌∙◌, inl, inr, suc-le-suc, le_of_suc-le-suc}
 use Rattle.std.specs.List.{AllPairs}
-use Rattle.std.proofs.lemmas.Bool.{cases_eq, cases_lt, eq-eqb, ne_eqb}
-use Rattle.std.proofs.lemmas.Int.{ints}
-use Rattle.std.proofs.lemmas.List.{get_or-map, length-map}
+use Rattle.std.proofs.{lemmas.Bool.{cases_eq, cases_lt, eq-eqb, ne_eqb}, lemmas.Int.{ints}, lemmas.List.{get_or-map, length-map}}
 use Rattle.smp_frac.proofs.Integers.{diff, diff-neg, diff-same, diffs, pos-diff}
-use Rattle.smp_kernel.specs.RowReduction.{AreIndependent, cut}
-use Rattle.smp_kernel.specs.Vectors.{combination, dot, entry}
+use Rattle.smp_kernel.specs.{RowReduction.{AreIndependent, cut}, Vectors.{combination, dot, entry}}
 use Rattle.smp_kernel.proofs.FoundCircuits.{dot_row, in_row_cut}
-use Rattle.smp_stratcube.specs.declared.values.Value.{Value}
-use Rattle.smp_stratcube.specs.Units.{IsUnits, Units, column, columns_of, stratum}
-use Rattle.smp_stratcube.specs.Values.{fractional_units, is_fractional}
-use Rattle.smp_stratcube.specs.Laws.Units.{fractional_in, order_apart, order_going, order_place}
+use Rattle.smp_stratcube.specs.{declared.values.Value.{Value}, Units.{IsUnits, Units, column, columns_of, stratum}}
+use Rattle.smp_stratcube.specs.{Values.{fractional_units, is_fractional}, Laws.Units.{fractional_in, order_apart, order_going, order_place}}
 use Rattle.smp_stratcube.proofs.Totals.{number_in, numbers_are}
 
 -- ---- products of which all but one or two are 0

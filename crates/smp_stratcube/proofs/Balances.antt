@@ -1,51 +1,28 @@
 -- The cube over all strata owes what a balanced selection owes, and its start is one.
 use Rattle.std.proofs.Common.{◌≡◌, ◌≢◌, ℕ, ◌<◌, ◌≤◌, ◌^◌, nat_eq, nat_lt, true, false, cond, ℤ, pos, List, [], ◌∷◌, filter, map, take, length, arith, refl, sym, ap, ◌∙◌, subst, inl, inr}
-use Rattle.std.proofs.lemmas.Bool.{cases_Bool, cases_lt, eqb-false, true≢false}
-use Rattle.std.proofs.lemmas.List.{length-map, get_or-map, get_or_past}
+use Rattle.std.proofs.{lemmas.Bool.{cases_Bool, cases_lt, eqb-false, true≢false}, lemmas.List.{length-map, get_or-map, get_or_past}}
 use Rattle.std.specs.Int.{IsGcd}
 use Rattle.std.proofs.lemmas.Nat.Gcd.{dvd_refl, dvd-zero}
 use Rattle.smp_frac.specs.Fractions.{Fraction, Same, whole, integer, times, inverse}
 use Rattle.smp_frac.proofs.Arithmetic.{same_refl, same_trans, plus_same, plus-zero, times_same, times-zero, times-one, sum_same}
-use Rattle.smp_kernel.specs.Vectors.{entry}
+use Rattle.smp_kernel.specs.{Vectors.{entry}, Searches.{found}}
 use Rattle.smp_kernel.proofs.Ring.{zero_or}
-use Rattle.smp_split.specs.Trees.{EachPart}
-use Rattle.smp_split.specs.Parts.{moved}
+use Rattle.smp_split.specs.{Trees.{EachPart}, Parts.{moved}}
 use Rattle.smp_split.specs.declared.kind.Kind.TheVariants as kind
-use Rattle.smp_values.specs.Values.{fractional}
-use Rattle.smp_values.specs.Steps.{kind_on}
-use Rattle.smp_moves.specs.Moves.{Line, Move, entry_of, fraction_of, turned, Next, move, independent, wide}
-use Rattle.smp_moves.specs.Balances.{Begins}
-use Rattle.smp_moves.specs.Owed.{HasKept, HasStayed, IsStart, Owes}
-use Rattle.smp_moves.proofs.Evens.{entry_of_turned, times_assoc}
-use Rattle.smp_moves.proofs.Entries.{off_line, place_or}
-use Rattle.smp_moves.proofs.Owed.{is_balanced}
-use Rattle.smp_moves.specs.Cubes.{flying, pairing, values_in, flight_kind}
-use Rattle.smp_stratcube.specs.declared.units.Member.{Member}
-use Rattle.smp_stratcube.specs.declared.values.Value.{Value}
-use Rattle.smp_stratcube.specs.Units.{Units, IsUnits, column, member, nobody, share, stratum}
+use Rattle.smp_values.specs.{Values.{fractional}, Steps.{kind_on}}
+use Rattle.smp_moves.specs.{Moves.{Line, Move, entry_of, fraction_of, turned, Next, move, independent, wide}, Balances.{Begins}}
+use Rattle.smp_moves.specs.{Owed.{HasKept, HasStayed, IsStart, Owes}, Cubes.{flying, pairing, values_in, flight_kind}, Steps.{Finds}}
+use Rattle.smp_moves.proofs.{Evens.{entry_of_turned, times_assoc}, Entries.{off_line, place_or}, Owed.{is_balanced}, Computed.{known}}
+use Rattle.smp_stratcube.specs.{declared.units.Member.{Member}, declared.values.Value.{Value}, Kept.States.{requested_value}}
+use Rattle.smp_stratcube.specs.{Units.{Units, IsUnits, column, member, nobody, share, stratum}, Moves.{setting_of}, Pairs.{step_units}}
 use Rattle.smp_stratcube.specs.Values.{AreValues, IsValue, common_of, fractional_count, fractional_units, is_fractional, is_settled, nothing, over_common, taken_over, touched_units, value, value_at}
-use Rattle.smp_stratcube.specs.States.{Balancing, Flight, IsBalancing, IsFlying, started}
-use Rattle.smp_stratcube.specs.Kept.States.{requested_value}
-use Rattle.smp_stratcube.specs.Moves.{setting_of}
-use Rattle.smp_stratcube.specs.Kept.Computed.{moved_values, next, flight_of}
-use Rattle.smp_stratcube.specs.Pairs.{step_units}
-use Rattle.smp_stratcube.specs.Kept.Pairs.{is_one_of, parts_of}
-use Rattle.smp_stratcube.specs.Cube.{cube_by}
-use Rattle.smp_stratcube.specs.Laws.Nexts.{each_step}
-use Rattle.smp_stratcube.specs.Kept.Trees.{IsBalanced, flight_parts, strat_kind, strat_parts, weighed_of}
-use Rattle.smp_stratcube.specs.Balances.{addend, expanded}
-use Rattle.smp_kernel.specs.Searches.{found}
-use Rattle.smp_stratcube.specs.Laws.Directions.{line_ok}
-use Rattle.smp_stratcube.specs.Laws.Moves.{IsEnd, plus_end, minus_end}
-use Rattle.smp_stratcube.specs.Laws.Pairs.{IsStep, each_paired, not_among, step_at, step_is}
-use Rattle.smp_stratcube.specs.Laws.Splits.{strat_lawful, values_ok}
-use Rattle.smp_stratcube.specs.Laws.Taken.{taken_kept}
-use Rattle.smp_stratcube.specs.Laws.Units.{front_going}
-use Rattle.smp_stratcube.proofs.Landed.{drop_at, few_at, lands_at as begins_stuck}
-use Rattle.smp_stratcube.proofs.Totals.{inverse_cancels, plus_total, minus_total}
-use Rattle.smp_moves.specs.Steps.{Finds}
+use Rattle.smp_stratcube.specs.{States.{Balancing, Flight, IsBalancing, IsFlying, started}, Kept.Computed.{moved_values, next, flight_of}}
+use Rattle.smp_stratcube.specs.{Kept.Pairs.{is_one_of, parts_of}, Cube.{cube_by}, Laws.Nexts.{each_step}, Balances.{addend, expanded}}
+use Rattle.smp_stratcube.specs.{Kept.Trees.{IsBalanced, flight_parts, strat_kind, strat_parts, weighed_of}, Laws.Directions.{line_ok}}
+use Rattle.smp_stratcube.specs.{Laws.Moves.{IsEnd, plus_end, minus_end}, Laws.Pairs.{IsStep, each_paired, not_among, step_at, step_is}}
+use Rattle.smp_stratcube.specs.{Laws.Splits.{strat_lawful, values_ok}, Laws.Taken.{taken_kept}, Laws.Units.{front_going}}
+use Rattle.smp_stratcube.proofs.{Landed.{drop_at, few_at, lands_at as begins_stuck}, Totals.{inverse_cancels, plus_total, minus_total}}
 use Rattle.smp_moves.specs.Kept.Computed.{direction, IsKnown}
-use Rattle.smp_moves.proofs.Computed.{known}
 use Rattle.smp_moves.proofs.Flights.{IsInFlight, flies_at, lands_at, later_at}
 
 IsGcd-zero : IsGcd 0 1 1

@@ -1,20 +1,15 @@
 -- The least common denominators of units and those behind them.
 use Rattle.std.proofs.Common.{◌≡◌, ◌≢◌, ℕ, ◌+◌, ◌^◌, ◌<◌, ◌≤◌, nat_eq, List, [], ◌∷◌, map, length, get_or, arith, refl, sym, ap, ◌∙◌, subst, inl, inr}
 use Rattle.std.specs.List.{filter}
-use Rattle.std.proofs.lemmas.Bool.{cases_lt, eq-eqb, eqb-true, ne_eqb}
-use Rattle.std.proofs.lemmas.List.{get_or_past}
+use Rattle.std.proofs.{lemmas.Bool.{cases_lt, eq-eqb, eqb-true, ne_eqb}, lemmas.List.{get_or_past}, Math.Nat.{one-dvd}}
 use Rattle.std.proofs.lemmas.Nat.Gcd.{dvd_antisymm, dvd_refl, dvd_trans}
-use Rattle.std.proofs.Math.Nat.{one-dvd}
 use Prim.Native.Nat.{◌∣◌}
 use Rattle.smp_prob.specs.Given.{least_multiple}
 use Rattle.smp_moves.specs.Steps.{common_multiple}
 use Rattle.smp_moves.proofs.Filtered.{filter_none}
-use Rattle.smp_stratcube.specs.declared.units.Member.{Member}
-use Rattle.smp_stratcube.specs.Units.{IsUnits, Units, nobody}
-use Rattle.smp_stratcube.specs.Kept.Behind.{HaveCommon, IsBehind, dens_behind, units_behind}
-use Rattle.smp_stratcube.specs.Kept.Fronts.{units_on}
+use Rattle.smp_stratcube.specs.{declared.units.Member.{Member}, Units.{IsUnits, Units, nobody}, Kept.Fronts.{units_on}}
+use Rattle.smp_stratcube.specs.{Kept.Behind.{HaveCommon, IsBehind, dens_behind, units_behind}, Laws.Units.{filter_from, filter_is}}
 use Rattle.smp_moves.proofs.Multiples.{AllDivide, AllSome, from, from_each, from_least, from_some, from_start, least, map_divide, multiple_each, multiple_least, multiple_most, multiple_some, some_map}
-use Rattle.smp_stratcube.specs.Laws.Units.{filter_from, filter_is}
 use Rattle.smp_stratcube.proofs.Ahead.{unit_on, units_here}
 
 -- ---- least common multiples

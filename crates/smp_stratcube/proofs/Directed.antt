@@ -1,27 +1,16 @@
 -- A direction by an array.
 use Rattle.std.proofs.Common.{◌≡◌, ℕ, zero, suc, le_of_suc-le-suc, map, ◌+◌, ◌*◌, ◌/◌, ◌<◌, ◌≤◌, ◌^◌, nat_le, true, false, Some, None, List, [], ◌∷◌, ℤ, pos, take, length, get_or, arith, refl, sym, ap, ap₂, ◌∙◌, subst, inl, inr, length-take, get_or-take}
 use Rattle.std.specs.Int.RustNames.{unsigned_abs}
-use Rattle.std.proofs.lemmas.Bool.{and_from, and_parts, cases_Bool, cases_lt, le-leb, leb-true}
-use Rattle.std.proofs.lemmas.List.{ext_get_or, length-map, get_or-map}
-use Rattle.std.proofs.lemmas.List.Elements.{All-take}
-use Rattle.std.proofs.Math.Nat.{mul-le-mul_left, mul-le-mul_right}
-use Rattle.smp_kernel.specs.Vectors.{entry, IsZero, Within}
-use Rattle.smp_kernel.specs.Reduced.{IsReduced, IsTooLong, primitive_part}
-use Rattle.smp_moves.specs.declared.lines.Ratio.{Ratio}
-use Rattle.smp_moves.specs.Ends.{entries_fit}
-use Rattle.smp_moves.proofs.FirstPlaces.{front_is, front_long}
-use Rattle.smp_moves.proofs.LineEnds.{lowest_is}
-use Rattle.smp_moves.proofs.Weights.{within_from, within_to}
-use Rattle.smp_moves.specs.Moves.{Line}
-use Rattle.smp_stratcube.specs.Units.{Units, column, columns_of, share}
+use Rattle.std.proofs.{lemmas.Bool.{and_from, and_parts, cases_Bool, cases_lt, le-leb, leb-true}, lemmas.List.Elements.{All-take}}
+use Rattle.std.proofs.{lemmas.List.{ext_get_or, length-map, get_or-map}, Math.Nat.{mul-le-mul_left, mul-le-mul_right}}
+use Rattle.smp_kernel.specs.{Vectors.{entry, IsZero, Within}, Reduced.{IsReduced, IsTooLong, primitive_part}}
+use Rattle.smp_moves.specs.{declared.lines.Ratio.{Ratio}, Ends.{entries_fit}, Moves.{Line}, Kept.Computed.{direction_on}}
+use Rattle.smp_moves.proofs.{FirstPlaces.{front_is, front_long}, LineEnds.{lowest_is}, Weights.{within_from, within_to}}
+use Rattle.smp_stratcube.specs.{Units.{Units, column, columns_of, share}, Kept.Gates.{held}}
 use Rattle.smp_moves.specs.Steps.{product, signed, common_multiple, products, scale_of, scaled}
-use Rattle.smp_stratcube.specs.Kept.Gates.{held}
 use Rattle.smp_stratcube.specs.Kept.Lines.{AreParts, IsPart, direction_fits, no_part, over, part}
-use Rattle.smp_moves.proofs.Multiples.{AllSome}
-use Rattle.smp_stratcube.proofs.Gated.{gate_all, gate_held}
-use Rattle.smp_stratcube.proofs.Parts.{times-div}
-use Rattle.smp_moves.specs.Kept.Computed.{direction_on}
-use Rattle.smp_moves.proofs.Products.{entry-scaled, length-products, length-scaled}
+use Rattle.smp_moves.proofs.{Multiples.{AllSome}, Products.{entry-scaled, length-products, length-scaled}}
+use Rattle.smp_stratcube.proofs.{Gated.{gate_all, gate_held}, Parts.{times-div}}
 
 -- ---- arrays as lists
 

@@ -1,44 +1,25 @@
 -- The values at the end of a line, unit by unit, and their common denominator.
 use Rattle.std.proofs.Common.{◌≡◌, ◌≢◌, ℕ, suc, ◌*◌, ◌/◌, ◌<◌, ◌≤◌, ◌^◌, ◌&&◌, nat_le, Bool, true, false, pos, Option, Some, List, [], ◌∷◌, ◌++◌, map, take, length, get_or, arith, refl, sym, ap, ◌∙◌, subst, inl, inr, suc-le-suc, length-take, get_or-take}
-use Rattle.std.specs.List.{filter, range_with_len}
-use Rattle.std.specs.Option.{is_some}
-use Rattle.std.specs.Int.RustNames.{unsigned_abs}
-use Rattle.std.proofs.lemmas.Bool.{and_parts, cases_Bool, ne_eqb}
-use Rattle.std.proofs.lemmas.List.{append-nil, get_or-map}
+use Rattle.std.specs.{List.{filter, range_with_len}, Option.{is_some}, Int.RustNames.{unsigned_abs}}
+use Rattle.std.proofs.{lemmas.Bool.{and_parts, cases_Bool, ne_eqb}, lemmas.List.{append-nil, get_or-map}, Math.Nat.{one-dvd}}
 use Rattle.std.proofs.lemmas.List.Elements.{filter-append}
-use Rattle.std.proofs.Math.Nat.{one-dvd}
 use Prim.Native.Nat.{◌∣◌}
 use Rattle.smp_kernel.proofs.Ring.{abs_zero, zero_or}
 use Rattle.smp_prob.specs.Shares.{Shares}
 use Rattle.smp_values.specs.Values.{fractional}
-use Rattle.smp_moves.specs.declared.lines.Ratio.{Ratio}
-use Rattle.smp_moves.specs.declared.lines.Line.{Line as LineOfPlaces}
-use Rattle.smp_moves.specs.declared.reaches.Reach.{Reach}
-use Rattle.smp_moves.specs.Moves.{Line, entry_of}
-use Rattle.smp_moves.specs.Ends.{advanced, advanced_numbers, common_factor, end_of, lowest, reach}
-use Rattle.smp_moves.specs.Answers.{line_of}
-use Rattle.smp_moves.specs.Kept.Ends.{CanMove, IsOver}
-use Rattle.smp_moves.proofs.Entries.{order_within}
-use Rattle.smp_moves.proofs.LineEnds.{divides_each, divides_first, full_positive, reached}
-use Rattle.smp_moves.proofs.LowestTerms.{lowest_scaled}
-use Rattle.smp_moves.proofs.Places.{advanced_at, length_advanced}
-use Rattle.smp_moves.proofs.Sizes.{can_advance, small_places}
-use Rattle.smp_stratcube.specs.declared.fronts.Front.{Front}
-use Rattle.smp_stratcube.specs.declared.values.Value.{Value}
-use Rattle.smp_stratcube.specs.Units.{Units, IsUnits, first, stratum}
+use Rattle.smp_moves.specs.{declared.lines.Ratio.{Ratio}, declared.lines.Line.{Line as LineOfPlaces}, declared.reaches.Reach.{Reach}}
+use Rattle.smp_moves.specs.{Moves.{Line, entry_of}, Ends.{advanced, advanced_numbers, common_factor, end_of, lowest, reach}}
+use Rattle.smp_moves.specs.{Answers.{line_of}, Kept.Ends.{CanMove, IsOver}, Steps.{common_multiple}}
+use Rattle.smp_moves.proofs.{Entries.{order_within}, LineEnds.{divides_each, divides_first, full_positive, reached}}
+use Rattle.smp_moves.proofs.{LowestTerms.{lowest_scaled}, Places.{advanced_at, length_advanced}, Sizes.{can_advance, small_places}}
+use Rattle.smp_stratcube.specs.{declared.fronts.Front.{Front}, declared.values.Value.{Value}, Units.{Units, IsUnits, first, stratum}}
 use Rattle.smp_stratcube.specs.Values.{AreValues, common_of, denominators, is_fractional, over_common, taken_over, touched_units, value}
-use Rattle.smp_moves.specs.Steps.{common_multiple}
-use Rattle.smp_stratcube.specs.Kept.Computed.{moves}
-use Rattle.smp_stratcube.specs.Kept.Fronts.{IsFront, front_units, units_on}
-use Rattle.smp_stratcube.specs.Kept.Gates.{gated, gathered, held, with_unit}
-use Rattle.smp_stratcube.specs.Kept.Moves.{IsAlong, end_gathered, moved_value}
+use Rattle.smp_stratcube.specs.{Kept.Computed.{moves}, Kept.Fronts.{IsFront, front_units, units_on}, Laws.Units.{denominators_some}}
+use Rattle.smp_stratcube.specs.{Kept.Gates.{gated, gathered, held, with_unit}, Kept.Moves.{IsAlong, end_gathered, moved_value}}
 use Rattle.smp_stratcube.specs.Laws.Ends.{after_fractional, after_values, moving, still}
-use Rattle.smp_moves.proofs.Multiples.{multiple_some, some_map}
+use Rattle.smp_moves.proofs.{Multiples.{multiple_some, some_map}, Filtered.{filter_none, filter_twice}}
 use Rattle.smp_stratcube.specs.Laws.Taken.{length_over, length_taken, numer_over, over_values, taken_kept, taken_moved}
-use Rattle.smp_stratcube.specs.Laws.Units.{denominators_some}
-use Rattle.smp_moves.proofs.Filtered.{filter_none, filter_twice}
-use Rattle.smp_stratcube.proofs.Ahead.{front_inside, unit_on}
-use Rattle.smp_stratcube.proofs.Gated.{from_append, gate_all, gate_held}
+use Rattle.smp_stratcube.proofs.{Ahead.{front_inside, unit_on}, Gated.{from_append, gate_all, gate_held}}
 
 -- ---- what some units add to a common denominator
 

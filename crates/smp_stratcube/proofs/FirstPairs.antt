@@ -1,15 +1,10 @@
 -- The first two neighbours of one stratum among the fractional units are the first two units of the first stratum that has two.
 use Rattle.std.proofs.Common.{◌≡◌, ◌≢◌, ℕ, suc, ◌<◌, ◌≤◌, true, Option, Some, None, List, length, get_or, arith, refl, sym, ap, ◌∙◌, subst, inl, inr, ◌⊎◌}
 use Rattle.std.proofs.lemmas.Bool.{cases_eq, cases_lt}
-use Rattle.smp_stratcube.specs.declared.values.Value.{Value}
-use Rattle.smp_stratcube.specs.Units.{Units, stratum}
-use Rattle.smp_stratcube.specs.Values.{fractional_units, is_fractional}
-use Rattle.smp_stratcube.specs.Pairs.{IsFirstPair, IsPairOf, first_pair}
-use Rattle.smp_stratcube.specs.States.{IsPairing}
-use Rattle.smp_stratcube.specs.Laws.Pairs.{StandsAt, stands_at}
+use Rattle.smp_stratcube.specs.{declared.values.Value.{Value}, Units.{Units, stratum}, Values.{fractional_units, is_fractional}}
+use Rattle.smp_stratcube.specs.{Pairs.{IsFirstPair, IsPairOf, first_pair}, States.{IsPairing}, Laws.Pairs.{StandsAt, stands_at}}
 use Rattle.smp_stratcube.specs.Laws.Units.{fractional_in, order_going, order_place}
-use Rattle.smp_stratcube.proofs.Ahead.{order_rises}
-use Rattle.smp_stratcube.proofs.Pairing.{apart}
+use Rattle.smp_stratcube.proofs.{Ahead.{order_rises}, Pairing.{apart}}
 
 module _ (units : Units) (values : List Value) (ok : IsPairing units values) where
   abbrev at : ℕ → ℕ

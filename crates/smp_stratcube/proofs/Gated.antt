@@ -1,8 +1,7 @@
 -- A common multiple that is held to the gate.
 use Rattle.std.proofs.Common.{◌≡◌, ℕ, ◌≤◌, ◌<◌, ◌^◌, nat_le, Option, Some, None, List, [], ◌∷◌, ◌++◌, arith, inl, inr, refl, subst, ap}
 use Rattle.std.specs.Prelude.{IfSome, IfNone}
-use Rattle.std.proofs.lemmas.Bool.{cases_Bool, le-leb, leb-false, lt-leb}
-use Rattle.std.proofs.Math.Nat.{le_of_dvd}
+use Rattle.std.proofs.{lemmas.Bool.{cases_Bool, le-leb, leb-false, lt-leb}, Math.Nat.{le_of_dvd}}
 use Rattle.smp_frac.specs.Divisors.{IsCommonMultiple, IsLeastMultiple}
 use Rattle.smp_prob.specs.Given.{least_multiple}
 use Rattle.smp_prob.proofs.Multiples.{least_multiple_is}

@@ -1,18 +1,12 @@
 -- The units of a line are written one by one.
 use Rattle.std.proofs.Common.{◌≡◌, ◌≢◌, ℕ, ◌+◌, ◌<◌, ◌≤◌, List, ℤ, pos, take, length, get_or, set, arith, inl, inr, refl, sym, ap, ◌∙◌, subst, length-take, get_or-take}
 use Rattle.std.specs.List.{AllPairs}
-use Rattle.std.proofs.lemmas.Bool.{cases_eq, eq-eqb, ne_eqb}
-use Rattle.std.proofs.lemmas.List.{get_or-set_same, get_or-set_other}
+use Rattle.std.proofs.{lemmas.Bool.{cases_eq, eq-eqb, ne_eqb}, lemmas.List.{get_or-set_same, get_or-set_other}}
 use Rattle.smp_kernel.specs.Vectors.{entry}
-use Rattle.smp_moves.specs.declared.reaches.Reach.{Reach}
-use Rattle.smp_moves.specs.Moves.{entry_at, entry_of}
-use Rattle.smp_moves.specs.Answers.{line_of}
+use Rattle.smp_moves.specs.{declared.reaches.Reach.{Reach}, Moves.{entry_at, entry_of}, Answers.{line_of}}
 use Rattle.smp_moves.specs.declared.lines.Line.{Line as LineOfPlaces}
-use Rattle.smp_moves.proofs.Entries.{entry_at_none, entry_at_place, place_or}
-use Rattle.smp_moves.proofs.Places.{entry_step, length-rest, rest_is, rest_of}
-use Rattle.smp_stratcube.specs.declared.values.Value.{Value}
-use Rattle.smp_stratcube.specs.Values.{nothing, value}
-use Rattle.smp_stratcube.specs.Kept.Moves.{moved_value}
+use Rattle.smp_moves.proofs.{Entries.{entry_at_none, entry_at_place, place_or}, Places.{entry_step, length-rest, rest_is, rest_of}}
+use Rattle.smp_stratcube.specs.{declared.values.Value.{Value}, Values.{nothing, value}, Kept.Moves.{moved_value}}
 
 -- the entry at a unit from place j on of a line
 abbrev pub entry_left : ℕ → List ℕ → List ℤ → ℕ → ℕ → ℤ

@@ -1,40 +1,23 @@
 -- A state after a step: what it is, and what is kept of it.
 use Rattle.std.proofs.Common.{◌≡◌, ℕ, ◌+◌, ◌-◌, ◌<◌, ◌≤◌, nat_lt, suc, Bool, true, false, Option, Some, None, List, [], ◌∷◌, length, get_or, arith, refl, sym, ap, ◌∙◌, subst, inl, inr, length-take, get_or-take}
 use Rattle.std.proofs.lemmas.Bool.{cases_Bool, lt-ltb, ltb-false, true≢false}
-use Rattle.smp_split.specs.Trees.{EachPart, picked, weight_sum}
-use Rattle.smp_split.specs.Laws.Parts.{picked-moved, weight_sum-moved}
-use Rattle.smp_split.specs.Laws.Steps.{picked_is_part}
-use Rattle.smp_moves.specs.Owed.{HasKept}
-use Rattle.smp_moves.specs.Cubes.{flying, landed, pairing, values_in}
-use Rattle.smp_stratcube.specs.Kept.Trees.{flight_parts, strat_parts, weighed_of}
-use Rattle.smp_stratcube.proofs.Balances.{paired_kept}
+use Rattle.smp_split.specs.{Trees.{EachPart, picked, weight_sum}, Laws.Parts.{picked-moved, weight_sum-moved}, Laws.Steps.{picked_is_part}}
+use Rattle.smp_moves.specs.{Owed.{HasKept}, Cubes.{flying, landed, pairing, values_in}}
+use Rattle.smp_stratcube.specs.{Kept.Trees.{flight_parts, strat_parts, weighed_of}, declared.fronts.Front.{Front}, Units.{Units, share}}
+use Rattle.smp_stratcube.proofs.{Balances.{paired_kept}, Ahead.{front_before, stays_ahead}, Pairing.{pair_of_front}, Stepped.{off_units}}
 use Rattle.smp_moves.specs.Moves.{Line, Move, Next, chosen_line, independent, move, wide}
-use Rattle.smp_stratcube.specs.declared.fronts.Front.{Front}
-use Rattle.smp_stratcube.specs.declared.state.Phase.{Phase}
-use Rattle.smp_stratcube.specs.declared.state.Phase.TheVariants.{Flying, Pairing}
-use Rattle.smp_stratcube.specs.declared.values.Value.{Value}
-use Rattle.smp_stratcube.specs.Units.{Units, share}
-use Rattle.smp_stratcube.specs.Values.{fractional_count, fractional_units, is_fractional, is_settled, value}
-use Rattle.smp_stratcube.specs.States.{Balancing, Flight, IsFlying, IsPairing}
-use Rattle.smp_stratcube.specs.Kept.Computed.{chosen, moved_values, moves, next, flight_of}
-use Rattle.smp_stratcube.specs.Pairs.{first_pair, paired_parts, step_units}
-use Rattle.smp_stratcube.specs.Kept.Pairs.{is_one_of, units_by}
-use Rattle.smp_stratcube.specs.Kept.Fronts.{IsAhead, IsFront, front_units}
-use Rattle.smp_stratcube.specs.Kept.States.{balancing_of}
-use Rattle.smp_stratcube.specs.Kept.Moves.{IsStep}
-use Rattle.smp_stratcube.specs.declared.steps.Next.{Next as Answer}
-use Rattle.smp_stratcube.specs.Laws.Ends.{still}
+use Rattle.smp_stratcube.specs.{declared.state.Phase.{Phase}, declared.state.Phase.TheVariants.{Flying, Pairing}, Kept.Moves.{IsStep}}
+use Rattle.smp_stratcube.specs.{declared.values.Value.{Value}, States.{Balancing, Flight, IsFlying, IsPairing}, Kept.States.{balancing_of}}
+use Rattle.smp_stratcube.specs.{Values.{fractional_count, fractional_units, is_fractional, is_settled, value}, Laws.Ends.{still}}
+use Rattle.smp_stratcube.specs.{Kept.Computed.{chosen, moved_values, moves, next, flight_of}, Pairs.{first_pair, paired_parts, step_units}}
+use Rattle.smp_stratcube.specs.{Kept.Pairs.{is_one_of, units_by}, Kept.Fronts.{IsAhead, IsFront, front_units}, Moves.{setting_of}}
+use Rattle.smp_stratcube.specs.{declared.steps.Next.{Next as Answer}, Laws.Moves.{IsEnd, minus_end, plus_end}}
 use Rattle.smp_frac.specs.Fractions.{Fraction}
-use Rattle.smp_stratcube.specs.Laws.Moves.{IsEnd, minus_end, plus_end}
 use Rattle.smp_stratcube.specs.Laws.Pairs.{EachOf, each_of, each_taken, not_among, stands_at, step_is}
 use Rattle.smp_stratcube.specs.Laws.Taken.{length_taken, taken_kept}
-use Rattle.smp_stratcube.proofs.Ahead.{front_before, stays_ahead}
-use Rattle.smp_stratcube.proofs.Pairing.{pair_of_front}
 use Rattle.smp_stratcube.proofs.Written.{alone, some_front}
-use Rattle.smp_stratcube.proofs.Stepped.{off_units}
 use Rattle.smp_moves.specs.Kept.Computed.{direction, next_along, IsKnown, dropped}
 use Rattle.smp_moves.proofs.Computed.{known}
-use Rattle.smp_stratcube.specs.Moves.{setting_of}
 
 -- ---- the values of a state
 

@@ -1,26 +1,14 @@
 -- Where a row is dropped, the columns are independent, and where the landing begins, no direction is left or the next step doesn't fit.
-use Rattle.std.proofs.Common.{◌≡◌, ℕ, ◌≤◌, List, [], ◌∷◌, ℤ, length, arith, subst, inl, inr}
-use Rattle.std.proofs.lemmas.List.{take_all}
+use Rattle.std.proofs.{Common.{◌≡◌, ℕ, ◌≤◌, List, [], ◌∷◌, ℤ, length, arith, subst, inl, inr}, lemmas.List.{take_all}}
 use Rattle.smp_kernel.specs.RowReduction.{cut, AreIndependent}
 use Rattle.smp_kernel.proofs.SearchLaw.{together}
 use Rattle.smp_split.specs.declared.kind.Kind.TheVariants as kind
 use Rattle.smp_values.specs.Steps.{kind_on}
-use Rattle.smp_moves.specs.Moves.{independent}
-use Rattle.smp_moves.specs.Balances.{Begins}
-use Rattle.smp_moves.specs.Cubes.{flying, pairing, rows_in, values_in}
-use Rattle.smp_stratcube.specs.Units.{Units, columns_of}
-use Rattle.smp_stratcube.specs.Values.{fractional_count, fractional_units}
-use Rattle.smp_stratcube.specs.States.{Balancing, Flight, IsBalancing}
-use Rattle.smp_stratcube.specs.Kept.Computed.{next, moved_values}
-use Rattle.smp_stratcube.specs.Cube.{cube_by}
-use Rattle.smp_stratcube.specs.Pairs.{step_units}
-use Rattle.smp_stratcube.specs.Kept.Trees.{strat_kind}
-use Rattle.smp_stratcube.specs.Laws.Splits.{few_fractional}
-use Rattle.smp_stratcube.specs.Laws.Nexts.{each_step, next_is}
-use Rattle.smp_moves.specs.Steps.{IsNext, IsStuck}
-use Rattle.smp_moves.proofs.Computed.{finds_none}
-use Rattle.smp_moves.proofs.Flights.{is_independent, is_wide}
-use Rattle.smp_stratcube.specs.Moves.{setting_of}
+use Rattle.smp_moves.specs.{Moves.{independent}, Balances.{Begins}, Cubes.{flying, pairing, rows_in, values_in}, Steps.{IsNext, IsStuck}}
+use Rattle.smp_stratcube.specs.{Units.{Units, columns_of}, Values.{fractional_count, fractional_units}, Kept.Computed.{next, moved_values}}
+use Rattle.smp_stratcube.specs.{States.{Balancing, Flight, IsBalancing}, Cube.{cube_by}, Pairs.{step_units}, Kept.Trees.{strat_kind}}
+use Rattle.smp_stratcube.specs.{Laws.Splits.{few_fractional}, Laws.Nexts.{each_step, next_is}, Moves.{setting_of}}
+use Rattle.smp_moves.proofs.{Computed.{finds_none}, Flights.{is_independent, is_wide}}
 
 no_landing : (ks : List ℕ) → Begins (kind_on ks) → ⊥
 no_landing [] e = elim e [ inl d ↦ absurd (cc) | inr w ↦ absurd (cc) ]

@@ -1,30 +1,20 @@
 -- The units of some strata are units that can be balanced.
 use Rattle.std.proofs.Common.{◌≡◌, ◌≢◌, ℕ, zero, suc, ◌+◌, ◌-◌, ◌*◌, ◌/◌, ◌^◌, ◌<◌, ◌≤◌, max, nat_eq, false, ℤ, pos, List, [], ◌∷◌, ◌++◌, map, set, length, get_or, arith, refl, sym, ap, ◌∙◌, subst, inl, inr, mul-pos, eq-zero-or-pos, suc-le-suc, le_of_suc-le-suc, length-append}
-use Rattle.std.specs.Int.RustNames.{unsigned_abs}
-use Rattle.std.specs.Prelude.{replicate}
-use Rattle.std.specs.List.{range_with_len}
-use Rattle.std.proofs.lemmas.Bool.{cases_Bool, cases_eq, cases_lt, eqb-false, ne_eqb}
+use Rattle.std.specs.{Int.RustNames.{unsigned_abs}, Prelude.{replicate}, List.{range_with_len}}
+use Rattle.std.proofs.{lemmas.Bool.{cases_Bool, cases_eq, cases_lt, eqb-false, ne_eqb}, lemmas.List.Elements.{All-from_get_or}}
 use Rattle.std.proofs.lemmas.List.{get_or-append_right, get_or-map, get_or-replicate, get_or-set_other, get_or-set_same, get_or_append_left, get_or_past, length-map, length-replicate}
-use Rattle.std.proofs.lemmas.List.Elements.{All-from_get_or}
-use Rattle.std.proofs.lemmas.List.FromFn.{get_or-map-range_with_len, length-map-range_with_len}
-use Rattle.std.proofs.lemmas.Nat.Gcd.{IsGcd-swap}
+use Rattle.std.proofs.{lemmas.List.FromFn.{get_or-map-range_with_len, length-map-range_with_len}, lemmas.Nat.Gcd.{IsGcd-swap}}
 use Rattle.std.proofs.Math.Nat.{div-le_self, dvd-mul_right, mul-div_cancel', mul-le-mul_right}
 use Prim.Native.Nat.{◌∣◌}
-use Rattle.smp_frac.specs.Fractions.{Same, over, times, whole}
+use Rattle.smp_frac.specs.{Fractions.{Same, over, times, whole}, Divisors.{greatest_common_divisor}}
 use Rattle.smp_frac.proofs.Arithmetic.{cancel, same_trans}
-use Rattle.smp_frac.specs.Divisors.{greatest_common_divisor}
-use Rattle.smp_frac.specs.Laws.Coprime.{divisor_positive, dvd_of_coprime, part_positive}
-use Rattle.smp_frac.specs.Laws.Gcds.{IsGcd-greatest_common_divisor}
+use Rattle.smp_frac.specs.{Laws.Coprime.{divisor_positive, dvd_of_coprime, part_positive}, Laws.Gcds.{IsGcd-greatest_common_divisor}}
 use Rattle.smp_kernel.specs.Vectors.{entry, Within}
-use Rattle.smp_moves.specs.Ends.{lowest}
-use Rattle.smp_moves.specs.Moves.{fraction_of}
+use Rattle.smp_moves.specs.{Ends.{lowest}, Moves.{fraction_of}}
 use Rattle.smp_moves.proofs.LineEnds.{lowest_is}
-use Rattle.smp_stratcube.specs.declared.units.Member.{Member}
-use Rattle.smp_stratcube.specs.Layers.{AreLayers, IsLayer, Layer, no_layer}
-use Rattle.smp_stratcube.specs.Kept.Layers.{first_of}
+use Rattle.smp_stratcube.specs.{declared.units.Member.{Member}, Layers.{AreLayers, IsLayer, Layer, no_layer}, Kept.Layers.{first_of}}
 use Rattle.smp_stratcube.specs.Units.{IsShare, IsUnits, Units, column, column_of, first, member_of, members_from, nobody, share, stratum, units_of}
-use Rattle.smp_stratcube.specs.Laws.Taken.{lowest_same}
-use Rattle.smp_stratcube.specs.Requests.{offset}
+use Rattle.smp_stratcube.specs.{Laws.Taken.{lowest_same}, Requests.{offset}}
 use Rattle.smp_stratcube.proofs.Stored.{in_front, in_rest, length-column}
 
 -- ---- which unit stands where

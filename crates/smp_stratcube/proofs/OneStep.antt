@@ -1,22 +1,13 @@
 -- The properties of a step fix it: there is one state at the end of a line, and so one step.
-use Rattle.std.proofs.Common.{◌≡◌, ℕ, ◌<◌, Bool, List, length, arith, sym, ap₂, ◌∙◌, inl, inr}
-use Rattle.std.proofs.lemmas.List.{ext_get_or}
+use Rattle.std.proofs.{Common.{◌≡◌, ℕ, ◌<◌, Bool, List, length, arith, sym, ap₂, ◌∙◌, inl, inr}, lemmas.List.{ext_get_or}}
 use Rattle.smp_frac.specs.Fractions.{Same}
-use Rattle.smp_frac.proofs.Arithmetic.{same_sym, same_trans}
-use Rattle.smp_frac.proofs.Signs.{over_cross}
+use Rattle.smp_frac.proofs.{Arithmetic.{same_sym, same_trans}, Signs.{over_cross}}
 use Rattle.smp_kernel.proofs.Ring.{zero_or}
-use Rattle.smp_moves.specs.declared.lines.Ratio.{Ratio}
-use Rattle.smp_moves.specs.Moves.{Line, Next, entry_of, fraction_of}
-use Rattle.smp_moves.specs.Steps.{IsNext}
+use Rattle.smp_moves.specs.{declared.lines.Ratio.{Ratio}, Moves.{Line, Next, entry_of, fraction_of}, Steps.{IsNext}}
 use Rattle.smp_moves.proofs.Computed as steps
 use Rattle.smp_moves.proofs.LowestTerms.{same_coprime}
-use Rattle.smp_stratcube.specs.declared.values.Value.{Value}
-use Rattle.smp_stratcube.specs.Units.{Units}
-use Rattle.smp_stratcube.specs.Values.{IsValue, fractional_units, nothing, value}
-use Rattle.smp_stratcube.specs.States.{Flight, IsFlying}
-use Rattle.smp_stratcube.specs.Kept.Computed.{moved_values}
-use Rattle.smp_stratcube.specs.Moves.{IsMovedTo, setting_of}
-use Rattle.smp_stratcube.specs.Laws.Nexts.{owes}
+use Rattle.smp_stratcube.specs.{declared.values.Value.{Value}, Units.{Units}, Values.{IsValue, fractional_units, nothing, value}}
+use Rattle.smp_stratcube.specs.{States.{Flight, IsFlying}, Kept.Computed.{moved_values}, Moves.{IsMovedTo, setting_of}, Laws.Nexts.{owes}}
 
 -- ---- the values at the end
 

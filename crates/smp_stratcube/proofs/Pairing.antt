@@ -1,28 +1,17 @@
 -- The first two of a stratum, and the common denominator of a stratum, by the first fractional units.
 use Rattle.std.proofs.Common.{◌≡◌, ◌≢◌, ℕ, zero, suc, ◌+◌, ◌-◌, ◌<◌, ◌≤◌, ◌^◌, nat_eq, false, Option, Some, None, List, [], ◌∷◌, ◌++◌, map, length, get_or, arith, refl, sym, ap, ap₂, ◌∙◌, inl, inr, suc-le-suc, le_of_suc-le-suc, length-take, get_or-take}
 use Rattle.std.specs.List.{filter, range_with_len}
-use Rattle.std.proofs.lemmas.Bool.{cases_Bool, eq-eqb, ne_eqb, true≢false}
-use Rattle.std.proofs.lemmas.List.{append-nil, map-append}
+use Rattle.std.proofs.{lemmas.Bool.{cases_Bool, eq-eqb, ne_eqb, true≢false}, lemmas.List.{append-nil, map-append}, Math.Nat.{le_of_dvd}}
 use Rattle.std.proofs.lemmas.List.Elements.{filter-append}
-use Rattle.std.proofs.Math.Nat.{le_of_dvd}
 use Rattle.smp_prob.specs.Given.{least_multiple}
-use Rattle.smp_moves.specs.Steps.{common_multiple}
-use Rattle.smp_moves.specs.declared.lines.Ratio.{Ratio}
-use Rattle.smp_moves.proofs.Places.{length-rest, rest_at, rest_of}
-use Rattle.smp_stratcube.specs.declared.fronts.Front.{Front}
-use Rattle.smp_stratcube.specs.declared.values.Value.{Value}
-use Rattle.smp_stratcube.specs.Units.{Units, IsUnits, share, stratum}
-use Rattle.smp_stratcube.specs.Values.{fractional_units, stratum_common, value}
-use Rattle.smp_stratcube.specs.Pairs.{first_pair}
-use Rattle.smp_stratcube.specs.States.{IsPairing}
-use Rattle.smp_stratcube.specs.Kept.Behind.{IsBehind, dens_behind}
-use Rattle.smp_stratcube.specs.Kept.Fronts.{IsFront, front_units, units_on}
+use Rattle.smp_moves.specs.{Steps.{common_multiple}, declared.lines.Ratio.{Ratio}}
+use Rattle.smp_moves.proofs.{Places.{length-rest, rest_at, rest_of}, Filtered.{filter_none, rest_in, rest_out}}
+use Rattle.smp_stratcube.specs.{declared.fronts.Front.{Front}, declared.values.Value.{Value}, Units.{Units, IsUnits, share, stratum}}
+use Rattle.smp_stratcube.specs.{Values.{fractional_units, stratum_common, value}, Pairs.{first_pair}, States.{IsPairing}}
+use Rattle.smp_stratcube.specs.{Kept.Behind.{IsBehind, dens_behind}, Kept.Fronts.{IsFront, front_units, units_on}, Laws.Units.{filter_from}}
 use Rattle.smp_stratcube.specs.Kept.Pairs.{HasStratum, common_in, dens_in}
 use Rattle.smp_moves.proofs.Multiples.{AllSome, from, from_some, from_start, multiple_some, some_map}
-use Rattle.smp_moves.proofs.Filtered.{filter_none, rest_in, rest_out}
-use Rattle.smp_stratcube.proofs.Ahead.{front_before, front_inside, in_front, order_rises, unit_on, units_none}
-use Rattle.smp_stratcube.specs.Laws.Units.{filter_from}
-use Rattle.smp_stratcube.proofs.Behinds.{from_multiple}
+use Rattle.smp_stratcube.proofs.{Ahead.{front_before, front_inside, in_front, order_rises, unit_on, units_none}, Behinds.{from_multiple}}
 use Rattle.smp_stratcube.proofs.Gated.{from_append}
 
 -- ---- the first two neighbours of one stratum

@@ -1,9 +1,7 @@
 -- Whole parts, and values that were read.
 use Rattle.std.proofs.Common.{◌≡◌, ℕ, ◌*◌, ◌/◌, ◌<◌, ◌≤◌, ◌^◌, false, List, length, get_or, arith, sym, ap, ◌∙◌}
-use Rattle.std.proofs.lemmas.List.{get_or_default, get_or-map}
-use Rattle.std.proofs.Math.Nat.{mul-le-mul_right}
-use Rattle.smp_stratcube.specs.declared.values.Value.{Value}
-use Rattle.smp_stratcube.specs.Values.{nothing, over_common, value}
+use Rattle.std.proofs.{lemmas.List.{get_or_default, get_or-map}, Math.Nat.{mul-le-mul_right}}
+use Rattle.smp_stratcube.specs.{declared.values.Value.{Value}, Values.{nothing, over_common, value}}
 
 pub times-div : (a b : ℕ) → b * (a / b) ≤ a
 times-div a b = grind arith

@@ -1,24 +1,18 @@
 -- The denominator of some fractions a / d in lowest terms is d, without what it has in common with all numerators.
 use Rattle.std.proofs.Common.{◌≡◌, ◌≢◌, ℕ, ℤ, pos, ◌*◌, ◌/◌, ◌<◌, ◌≤◌, ◌^◌, ◌&&◌, nat_le, nat_lt, mul-pos, true, false, Option, Some, None, [], ◌∷◌, arith, inl, inr, refl, sym, ap, ◌∙◌, subst}
-use Rattle.std.proofs.lemmas.Bool.{cases_Bool, le-ltb, lt-ltb, ne_eqb}
-use Rattle.std.proofs.lemmas.Nat.Gcd.{IsGcd-swap, dvd_antisymm, dvd_refl, dvd_trans}
+use Rattle.std.proofs.{lemmas.Bool.{cases_Bool, le-ltb, lt-ltb, ne_eqb}, lemmas.Nat.Gcd.{IsGcd-swap, dvd_antisymm, dvd_refl, dvd_trans}}
 use Rattle.std.proofs.Math.Nat.{div_self, dvd-mul_left, mul-dvd-mul_left, dvd_of_mul-dvd-mul_left, mul-div_cancel', mul-div_cancel_left, pos_of_dvd_of_pos}
-use Rattle.std.specs.Int.{IsGcd}
-use Rattle.std.specs.Int.RustNames.{unsigned_abs}
+use Rattle.std.specs.{Int.{IsGcd}, Int.RustNames.{unsigned_abs}}
 use Prim.Native.Nat.{◌∣◌}
-use Rattle.smp_frac.specs.Divisors.{greatest_common_divisor, IsCommonMultiple, IsLeastMultiple}
+use Rattle.smp_frac.specs.{Divisors.{greatest_common_divisor, IsCommonMultiple, IsLeastMultiple}, Laws.Gcds.{IsGcd-greatest_common_divisor}}
 use Rattle.smp_frac.specs.Laws.Coprime.{coprime_parts, dvd_of_coprime, part_positive}
-use Rattle.smp_frac.specs.Laws.Gcds.{IsGcd-greatest_common_divisor}
 use Rattle.smp_kernel.proofs.Ring.{abs_zero}
 use Rattle.smp_prob.specs.Given.{least_multiple}
 use Rattle.smp_prob.proofs.Multiples.{least_multiple_is}
 use Rattle.smp_values.specs.Values.{fractional}
-use Rattle.smp_moves.specs.declared.reaches.Reach.{Reach}
-use Rattle.smp_moves.specs.Ends.{advanced, lowest}
+use Rattle.smp_moves.specs.{declared.reaches.Reach.{Reach}, Ends.{advanced, lowest}}
 use Rattle.smp_moves.proofs.Multiples.{from_each, from_least, from_start, least}
-use Rattle.smp_stratcube.specs.declared.values.Value.{Value}
-use Rattle.smp_stratcube.specs.Kept.Gates.{IsSome, gated, held, with_unit}
-use Rattle.smp_stratcube.specs.Kept.Moves.{moved_value}
+use Rattle.smp_stratcube.specs.{declared.values.Value.{Value}, Kept.Gates.{IsSome, gated, held, with_unit}, Kept.Moves.{moved_value}}
 use Rattle.smp_stratcube.specs.Laws.Taken.{lowest_fractional}
 use Rattle.smp_stratcube.proofs.Gated.{gate_held}
 

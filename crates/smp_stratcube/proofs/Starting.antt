@@ -1,30 +1,19 @@
 -- A selection starts from the probabilities that are requested.
-use Rattle.smp_moves.specs.Cubes.{values_in}
+use Rattle.smp_moves.specs.{Cubes.{values_in}, Moves.{fraction_of}}
 use Rattle.std.proofs.Common.{◌≡◌, ℕ, ◌+◌, ◌-◌, ◌*◌, ◌<◌, true, List, ◌++◌, take, length, get_or, arith, sym, ap, ap₂, ◌∙◌, subst}
 use Rattle.std.specs.List.{filter, range_with_len}
-use Rattle.std.proofs.lemmas.List.{length-map}
-use Rattle.std.proofs.lemmas.List.FromFn.{length-range_with_len, get_or-range_with_len}
+use Rattle.std.proofs.{lemmas.List.{length-map}, lemmas.List.FromFn.{length-range_with_len, get_or-range_with_len}}
 use Rattle.smp_split.specs.Methods.{HasMeans}
 use Rattle.smp_split.proofs.Methods.{has_means}
 use Rattle.smp_values.specs.Values.{fractional}
 use Rattle.smp_values.proofs.Fractional.{is_fractional-between}
-use Rattle.smp_stratcube.specs.declared.fronts.Front.{Front}
-use Rattle.smp_stratcube.specs.declared.values.Value.{Value}
+use Rattle.smp_stratcube.specs.{declared.fronts.Front.{Front}, declared.values.Value.{Value}, Layers.{AreLayers, Layer, no_layer}}
 use Rattle.smp_frac.specs.Fractions.{Same, over}
-use Rattle.smp_moves.specs.Moves.{fraction_of}
-use Rattle.smp_stratcube.specs.Layers.{AreLayers, Layer, no_layer}
-use Rattle.smp_stratcube.specs.Units.{Units, IsUnits, member, member_of, share, units_of}
-use Rattle.smp_stratcube.specs.Requests.{AreRequested, offset}
-use Rattle.smp_stratcube.specs.Kept.Layers.{EachIsLayer}
-use Rattle.smp_stratcube.specs.Laws.Taken.{lowest_same}
-use Rattle.smp_stratcube.proofs.Layered.{at_offset, units_are}
-use Rattle.smp_stratcube.specs.Values.{is_fractional, value}
-use Rattle.smp_stratcube.specs.States.{started}
-use Rattle.smp_stratcube.specs.Kept.States.{requested_value}
-use Rattle.smp_stratcube.specs.Method.{method_of}
-use Rattle.smp_stratcube.specs.Kept.Fronts.{IsAhead, units_on}
+use Rattle.smp_stratcube.specs.{Units.{Units, IsUnits, member, member_of, share, units_of}, Requests.{AreRequested, offset}}
+use Rattle.smp_stratcube.specs.{Kept.Layers.{EachIsLayer}, Laws.Taken.{lowest_same}, Values.{is_fractional, value}, States.{started}}
+use Rattle.smp_stratcube.proofs.{Layered.{at_offset, units_are}, Balances.{first_at, started_flying}}
+use Rattle.smp_stratcube.specs.{Kept.States.{requested_value}, Method.{method_of}, Kept.Fronts.{IsAhead, units_on}}
 use Rattle.smp_moves.proofs.Filtered.{filter_all}
-use Rattle.smp_stratcube.proofs.Balances.{first_at, started_flying}
 
 pub strat_means : (units : Units) → IsUnits units → HasMeans (method_of units) (started units)
 strat_means units are = has_means (method_of units) (started units) (started_flying units are)

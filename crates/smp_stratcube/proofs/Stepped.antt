@@ -3,42 +3,23 @@ use Rattle.std.proofs.Common.{◌≡◌, ℕ, ◌+◌, ◌<◌, ◌≤◌, ◌^�
 use Rattle.std.specs.Int.RustNames.{unsigned_abs}
 use Rattle.std.proofs.lemmas.Bool.{and_from, and_parts, cases_Bool, le-leb, true≢false}
 use Rattle.std.proofs.lemmas.List.{append-nil, length-map, take-append-le, take-map, take-take}
-use Rattle.smp_kernel.specs.Vectors.{entry, IsZero, Within}
-use Rattle.smp_kernel.specs.RowReduction.{cut}
-use Rattle.smp_kernel.specs.Searches.{Search, found, IsSearch}
-use Rattle.smp_kernel.proofs.SearchLaw.{few_enter, first_decide, one_answer}
-use Rattle.smp_kernel.proofs.FoundCircuits.{circuit_length, cut_circuit_short}
-use Rattle.smp_moves.specs.Kept.Searches.{search, search_is}
-use Rattle.smp_moves.specs.Moves.{IsLine, Line, entry_at, entry_of, move, turned, wide}
-use Rattle.smp_moves.specs.Ends.{end_of, entries_fit, lowest, reach, weights}
-use Rattle.smp_moves.specs.declared.lines.Ratio.{Ratio}
+use Rattle.smp_kernel.specs.{Vectors.{entry, IsZero, Within}, RowReduction.{cut}, Searches.{Search, found, IsSearch}}
+use Rattle.smp_kernel.proofs.{SearchLaw.{few_enter, first_decide, one_answer}, FoundCircuits.{circuit_length, cut_circuit_short}}
+use Rattle.smp_moves.specs.{Kept.Searches.{search, search_is}, Moves.{IsLine, Line, entry_at, entry_of, move, turned, wide}}
+use Rattle.smp_moves.specs.{Ends.{end_of, entries_fit, lowest, reach, weights}, declared.lines.Ratio.{Ratio}, Answers.{IsPadded, line_of}}
 use Prim.Native.Nat.{◌∣◌}
 use Rattle.smp_kernel.proofs.Existence.{cut_short}
-use Rattle.smp_moves.specs.declared.lines.Line.{Line as LineOfPlaces}
-use Rattle.smp_moves.specs.declared.reaches.Reach.{Reach}
-use Rattle.smp_moves.specs.Answers.{IsPadded, line_of}
-use Rattle.smp_moves.specs.Kept.Ends.{HasSmallEntries}
-use Rattle.smp_moves.proofs.Entries.{entry_at_none, place_or}
-use Rattle.smp_stratcube.specs.declared.fronts.Front.{Front}
-use Rattle.smp_stratcube.specs.declared.values.Value.{Value}
-use Rattle.smp_stratcube.specs.Units.{Units, IsUnits, column, columns_of, share}
-use Rattle.smp_stratcube.specs.Values.{common_of, fractional_units, over_common, taken_over, value}
-use Rattle.smp_stratcube.specs.States.{Flight, IsFlying}
-use Rattle.smp_stratcube.specs.Kept.Computed.{moved_values, moves, next}
-use Rattle.smp_stratcube.specs.Moves.{setting_of}
-use Rattle.smp_stratcube.specs.Kept.Fronts.{IsFront, front_units, units_on}
-use Rattle.smp_stratcube.specs.Kept.Lines.{IsLineOf, direction_fits, HasDirection}
+use Rattle.smp_moves.specs.{declared.lines.Line.{Line as LineOfPlaces}, declared.reaches.Reach.{Reach}, Kept.Ends.{HasSmallEntries}}
+use Rattle.smp_moves.proofs.{Entries.{entry_at_none, place_or}, FirstPlaces.{front_small}, Computed.{prefix_length, some_scaled}}
+use Rattle.smp_stratcube.specs.{declared.fronts.Front.{Front}, declared.values.Value.{Value}, States.{Flight, IsFlying}, Moves.{setting_of}}
+use Rattle.smp_stratcube.specs.{Units.{Units, IsUnits, column, columns_of, share}, Kept.Computed.{moved_values, moves, next}}
+use Rattle.smp_stratcube.specs.{Values.{common_of, fractional_units, over_common, taken_over, value}, Kept.Gates.{held}}
+use Rattle.smp_stratcube.specs.{Kept.Fronts.{IsFront, front_units, units_on}, Kept.Lines.{IsLineOf, direction_fits, HasDirection}}
 use Rattle.smp_stratcube.specs.Kept.Moves.{IsAlong, IsMoveOf, end_gathered}
-use Rattle.smp_stratcube.specs.Kept.Gates.{held}
 use Rattle.smp_stratcube.specs.Laws.Directions.{den_divides, den_some, line_ok, prefix_in, some_shares}
-use Rattle.smp_moves.proofs.FirstPlaces.{front_small}
-use Rattle.smp_stratcube.proofs.Directed.{held_none, held_some}
-use Rattle.smp_stratcube.proofs.Ending.{end_held, inside, some_left, some_size}
+use Rattle.smp_stratcube.proofs.{Directed.{held_none, held_some}, Ending.{end_held, inside, some_left, some_size}, Written.{turn_along}}
 use Rattle.smp_stratcube.proofs.Ahead.{front_before, units_none}
-use Rattle.smp_stratcube.proofs.Written.{turn_along}
-use Rattle.smp_moves.specs.Steps.{Finds, scale_of, scaled}
-use Rattle.smp_moves.specs.Kept.Computed.{direction, fits, next_along, next_of}
-use Rattle.smp_moves.proofs.Computed.{prefix_length, some_scaled}
+use Rattle.smp_moves.specs.{Steps.{Finds, scale_of, scaled}, Kept.Computed.{direction, fits, next_along, next_of}}
 
 -- ---- the first units decide
 

@@ -1,15 +1,11 @@
 -- How strata are stored, and the columns of their units.
 use Rattle.std.proofs.Common.{◌≡◌, ◌≢◌, ℕ, zero, suc, ◌+◌, ◌-◌, ◌<◌, ◌≤◌, ℤ, pos, List, [], ◌∷◌, ◌++◌, map, take, drop, set, length, get_or, arith, refl, sym, ap, ap₂, ◌∙◌, subst, inl, inr, append_assoc, length-append, length-set, length-take, get_or-take}
-use Rattle.std.specs.Prelude.{replicate}
-use Rattle.std.specs.List.{range_with_len}
+use Rattle.std.specs.{Prelude.{replicate}, List.{range_with_len}}
 use Rattle.std.proofs.lemmas.Bool.{cases_eq, cases_lt, ne_eqb}
 use Rattle.std.proofs.lemmas.List.{drop_more, ext_get_or, get_or-append_right, get_or-map, get_or-replicate, get_or-set_other, get_or-set_same, get_or_append_left, get_or_past, get_or_read, length-map, length-replicate}
 use Rattle.smp_kernel.specs.Vectors.{entry}
-use Rattle.smp_prob.specs.declared.requests.Request.{Request}
-use Rattle.smp_prob.specs.Requests.{IsRequest}
-use Rattle.smp_prob.specs.Shares.{common_denominator}
-use Rattle.smp_stratcube.specs.Layers.{AreNumbers, IsLayer, Layer, no_layer, variables}
-use Rattle.smp_stratcube.specs.declared.units.Member.{Member}
+use Rattle.smp_prob.specs.{declared.requests.Request.{Request}, Requests.{IsRequest}, Shares.{common_denominator}}
+use Rattle.smp_stratcube.specs.{Layers.{AreNumbers, IsLayer, Layer, no_layer, variables}, declared.units.Member.{Member}}
 use Rattle.smp_stratcube.specs.Units.{column_of, member_of, members_from, units_of}
 use Rattle.smp_stratcube.specs.Kept.Layers.{EachIsLayer, IsFilledUp, IsStored, stored, width, layer_of, first_of}
 

@@ -1,24 +1,16 @@
 -- The sum of the values of a stratum.
 use Rattle.std.proofs.Common.{◌≡◌, ◌≢◌, ℕ, zero, suc, ◌+◌, ◌*◌, ◌<◌, ◌≤◌, nat_eq, ◌&&◌, Bool, true, false, cond, List, length, arith, refl, sym, ap, ◌∙◌, subst, inl, inr}
 use Rattle.std.specs.Int.RustNames.{unsigned_abs}
-use Rattle.std.proofs.Math.Nat.{mul-le-mul_right}
-use Rattle.std.proofs.lemmas.Bool.{cases_Bool, cases_eq, cases_lt, eq-eqb, lt-ltb, ne_eqb}
-use Rattle.std.proofs.lemmas.Int.{ints}
+use Rattle.std.proofs.{Math.Nat.{mul-le-mul_right}, lemmas.Bool.{cases_Bool, cases_eq, cases_lt, eq-eqb, lt-ltb, ne_eqb}, lemmas.Int.{ints}}
 use Rattle.smp_frac.specs.Fractions.{Fraction, Same, positive_one, whole, over, plus, times, sum_below}
 use Rattle.smp_frac.proofs.Arithmetic.{same_refl, same_sym, same_trans, plus_same, plus_assoc, plus-zero, zero-plus, times_same, one-times, zero-times, sum_same, sum-plus}
 use Rattle.smp_frac.proofs.Over.{cross_from_over, over_from_cross, over_plus}
-use Rattle.smp_split.specs.Means.{only}
-use Rattle.smp_split.specs.Laws.Means.{only_sum}
+use Rattle.smp_split.specs.{Means.{only}, Laws.Means.{only_sum}}
 use Rattle.smp_split.proofs.NumberSums.{sums, sum_by-range}
 use Rattle.smp_values.proofs.Fractional.{fractional_is, not_fractional, over_settled}
-use Rattle.smp_moves.specs.Owed.{weighed_total}
-use Rattle.smp_moves.specs.Cubes.{values_in}
-use Rattle.smp_stratcube.specs.declared.values.Value.{Value}
-use Rattle.smp_stratcube.specs.Units.{Units, stratum}
-use Rattle.smp_stratcube.specs.Values.{AreValues, is_fractional, is_one, value, value_at}
-use Rattle.smp_stratcube.specs.States.{Balancing}
-use Rattle.smp_stratcube.specs.Counts.{selected_in}
-use Rattle.smp_stratcube.specs.Kept.Trees.{weighed_of}
+use Rattle.smp_moves.specs.{Owed.{weighed_total}, Cubes.{values_in}}
+use Rattle.smp_stratcube.specs.{declared.values.Value.{Value}, Units.{Units, stratum}, States.{Balancing}, Counts.{selected_in}}
+use Rattle.smp_stratcube.specs.{Values.{AreValues, is_fractional, is_one, value, value_at}, Kept.Trees.{weighed_of}}
 use Rattle.smp_stratcube.specs.Laws.Units.{fractional_in}
 
 -- ---- sums

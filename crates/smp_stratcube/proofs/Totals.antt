@@ -1,38 +1,22 @@
 -- A move keeps the total of each row in force: the size of a stratum, or the total of a variable over all strata.
 use Rattle.std.proofs.Common.{◌≡◌, ℕ, suc, ◌+◌, ◌*◌, ◌/◌, ◌<◌, ◌≤◌, max, nat_lt, cond, ℤ, pos, negsuc, neg_ℤ, ◌*ℤ◌, ◌<ℤ◌, List, [], ◌∷◌, map, take, length, get_or, arith, refl, sym, ap, ◌∙◌, subst, inl, inr}
 use Rattle.std.specs.Int.RustNames.{unsigned_abs}
-use Rattle.std.proofs.lemmas.Bool.{cases_Bool, cases_eq, eq-eqb, ltb-true, ne_eqb}
-use Rattle.std.proofs.lemmas.Int.{ints}
-use Rattle.std.proofs.lemmas.List.{take-map}
+use Rattle.std.proofs.{lemmas.Bool.{cases_Bool, cases_eq, eq-eqb, ltb-true, ne_eqb}, lemmas.Int.{ints}, lemmas.List.{take-map}}
 use Rattle.std.proofs.Math.Nat.{mul-div_cancel'}
 use Prim.Native.Nat.{◌∣◌}
 use lib.IntN.{*ℤ_comm}
 use Rattle.smp_frac.specs.Fractions.{Fraction, Same, whole, integer, times, inverse, over, sum_below}
 use Rattle.smp_frac.proofs.Arithmetic.{same_refl, same_sym, same_trans, times_same, times_left_comm, times-zero, zero-times, one-times, times-one}
-use Rattle.smp_frac.proofs.Integers.{diff, diff-neg, diff-same, same-diff, by_diff, diffs, pos-diff}
-use Rattle.smp_kernel.specs.Vectors.{entry, dot}
-use Rattle.smp_kernel.specs.Searches.{found}
+use Rattle.smp_frac.proofs.{Integers.{diff, diff-neg, diff-same, same-diff, by_diff, diffs, pos-diff}, Signs.{neg-diff}}
+use Rattle.smp_kernel.specs.{Vectors.{entry, dot}, Searches.{found}}
 use Rattle.smp_kernel.proofs.FoundCircuits.{circuit_row, in_row}
-use Rattle.smp_moves.specs.declared.lines.Ratio.{Ratio}
-use Rattle.smp_moves.specs.Moves.{Line, Move, entry_of, fraction_of, turned}
-use Rattle.smp_moves.specs.Ends.{extent}
-use Rattle.smp_moves.proofs.Evens.{times_assoc}
-use Rattle.smp_moves.proofs.LineEnds.{lowest_is}
-use Rattle.smp_moves.proofs.LineSums.{sum_line, line_dot}
-use Rattle.smp_moves.proofs.Totals.{sum_stays, back_total}
-use Rattle.smp_frac.proofs.Signs.{neg-diff}
-use Rattle.smp_stratcube.specs.Units.{Units, column, columns_of, share, stratum}
-use Rattle.smp_stratcube.specs.Values.{fractional_units, over_common, value_at, common_of}
-use Rattle.smp_stratcube.specs.States.{Flight, IsFlying}
-use Rattle.smp_stratcube.specs.Kept.Computed.{moved_values}
-use Rattle.smp_stratcube.specs.Moves.{setting_of}
-use Rattle.smp_stratcube.specs.Balances.{expanded}
-use Rattle.smp_stratcube.specs.Laws.Directions.{is_direction, line_ok, prefix_in, some_shares}
-use Rattle.smp_stratcube.specs.Laws.Moves.{plus_end, minus_end}
-use Rattle.smp_moves.specs.Steps.{Finds, IsDirection, product, scale_of, signed}
-use Rattle.smp_moves.specs.Kept.Computed.{direction, IsKnown}
-use Rattle.smp_moves.proofs.Computed.{front_some, prefix_length}
-use Rattle.smp_moves.proofs.Products.{entry-scaled, scale_divides}
+use Rattle.smp_moves.specs.{declared.lines.Ratio.{Ratio}, Moves.{Line, Move, entry_of, fraction_of, turned}, Ends.{extent}}
+use Rattle.smp_moves.proofs.{Evens.{times_assoc}, LineEnds.{lowest_is}, LineSums.{sum_line, line_dot}, Totals.{sum_stays, back_total}}
+use Rattle.smp_stratcube.specs.{Units.{Units, column, columns_of, share, stratum}, States.{Flight, IsFlying}, Kept.Computed.{moved_values}}
+use Rattle.smp_stratcube.specs.{Values.{fractional_units, over_common, value_at, common_of}, Moves.{setting_of}, Balances.{expanded}}
+use Rattle.smp_stratcube.specs.{Laws.Directions.{is_direction, line_ok, prefix_in, some_shares}, Laws.Moves.{plus_end, minus_end}}
+use Rattle.smp_moves.specs.{Steps.{Finds, IsDirection, product, scale_of, signed}, Kept.Computed.{direction, IsKnown}}
+use Rattle.smp_moves.proofs.{Computed.{front_some, prefix_length}, Products.{entry-scaled, scale_divides}}
 
 -- ---- fractions
 

@@ -4,31 +4,19 @@ use Rattle.std.proofs.lemmas.Bool.{cases_Bool, cases_eq, ne_eqb, true≢false}
 use Rattle.smp_frac.specs.Fractions.{Same, plus, whole}
 use Rattle.smp_prob.specs.Shares.{Shares}
 use Rattle.smp_frac.proofs.Arithmetic.{same_refl, same_trans}
-use Rattle.smp_split.specs.Trees.{EachPart}
-use Rattle.smp_split.specs.Parts.{moved}
+use Rattle.smp_split.specs.{Trees.{EachPart}, Parts.{moved}}
 use Rattle.smp_split.proofs.Paths.{at_each_leaf_kept}
-use Rattle.smp_moves.specs.Balances.{Begins}
-use Rattle.smp_moves.specs.Moves.{Move, Next, fraction_of, independent, move, wide}
-use Rattle.smp_moves.specs.Owed.{HasKept, HasStayed}
-use Rattle.smp_moves.specs.Cubes.{flying, pairing, values_in, flight_kind}
-use Rattle.smp_moves.specs.Kept.Computed.{dropped}
-use Rattle.smp_stratcube.specs.declared.values.Value.{Value}
-use Rattle.smp_stratcube.specs.Units.{IsUnits, Units, stratum}
-use Rattle.smp_stratcube.specs.Values.{fractional_units, is_fractional, taken_over, value, value_at}
-use Rattle.smp_stratcube.specs.States.{Balancing, Flight, IsBalancing, IsFlying, IsPairing, started}
-use Rattle.smp_stratcube.specs.Kept.Computed.{chosen, next}
-use Rattle.smp_stratcube.specs.Pairs.{first_pair}
-use Rattle.smp_stratcube.specs.Kept.Pairs.{is_one_of, parts_of, units_by}
-use Rattle.smp_stratcube.specs.Kept.Trees.{HasCounts, flight_parts, strat_parts, strat_tree, weighed_of}
-use Rattle.smp_stratcube.specs.Laws.Meetings.{meeting_sums}
+use Rattle.smp_moves.specs.{Balances.{Begins}, Moves.{Move, Next, fraction_of, independent, move, wide}, Owed.{HasKept, HasStayed}}
+use Rattle.smp_moves.specs.{Cubes.{flying, pairing, values_in, flight_kind}, Kept.Computed.{dropped}}
+use Rattle.smp_stratcube.specs.{declared.values.Value.{Value}, Units.{IsUnits, Units, stratum}, Kept.Computed.{chosen, next}}
+use Rattle.smp_stratcube.specs.{Values.{fractional_units, is_fractional, taken_over, value, value_at}, Pairs.{first_pair}}
+use Rattle.smp_stratcube.specs.{States.{Balancing, Flight, IsBalancing, IsFlying, IsPairing, started}, Laws.Meetings.{meeting_sums}}
+use Rattle.smp_stratcube.specs.{Kept.Pairs.{is_one_of, parts_of, units_by}, Laws.Splits.{none_open, strat_lawful, values_ok}}
+use Rattle.smp_stratcube.specs.{Kept.Trees.{HasCounts, flight_parts, strat_parts, strat_tree, weighed_of}, Laws.Taken.{taken_kept}}
 use Rattle.smp_stratcube.specs.Laws.Pairs.{IsMeeting, IsStep, each_paired, not_among, pair_found, step_at}
-use Rattle.smp_stratcube.specs.Laws.Splits.{none_open, strat_lawful, values_ok}
-use Rattle.smp_stratcube.specs.Laws.Taken.{taken_kept}
 use Rattle.smp_stratcube.specs.Laws.Units.{fractional_in, order_going}
-use Rattle.smp_stratcube.proofs.Alone.{alone_in}
+use Rattle.smp_stratcube.proofs.{Alone.{alone_in}, Balances.{kept_by, started_flying, stays_by, strat_start}, Landed.{drop_at}}
 use Rattle.smp_moves.proofs.Flights.{IsInFlight}
-use Rattle.smp_stratcube.proofs.Balances.{kept_by, started_flying, stays_by, strat_start}
-use Rattle.smp_stratcube.proofs.Landed.{drop_at}
 use Rattle.smp_stratcube.proofs.FirstPairs.{alone}
 use Rattle.smp_stratcube.proofs.StratumSums.{NoneOpen, alone_never, counted, kept_sum, paired_sum, stratum_sum, total_is}
 

@@ -5,34 +5,20 @@ use Rattle.std.proofs.lemmas.List.{ext_get_or, get_or-set_same, get_or-set_other
 use Prim.Native.Nat.{◌∣◌}
 use Rattle.smp_prob.specs.Shares.{Shares}
 use Rattle.smp_split.specs.Trees.{picked, weight_sum}
-use Rattle.smp_values.specs.Pairs.{pair_bound, pair_weights}
-use Rattle.smp_values.specs.Values.{with_one, with_pair}
-use Rattle.smp_values.proofs.Changes.{two_at_i, two_at_j}
-use Rattle.smp_values.proofs.Fractional.{fractional_is}
-use Rattle.smp_moves.specs.declared.lines.Line.{Line as LineOfPlaces}
-use Rattle.smp_moves.specs.declared.reaches.Reach.{Reach}
-use Rattle.smp_moves.specs.Answers.{IsPadded, line_of}
-use Rattle.smp_moves.specs.Ends.{end_of, reach}
-use Rattle.smp_moves.specs.Moves.{IsLine, Line, turned}
-use Rattle.smp_moves.specs.Kept.Ends.{HasSmallEntries}
+use Rattle.smp_values.specs.{Pairs.{pair_bound, pair_weights}, Values.{with_one, with_pair}}
+use Rattle.smp_values.proofs.{Changes.{two_at_i, two_at_j}, Fractional.{fractional_is}}
+use Rattle.smp_moves.specs.{declared.lines.Line.{Line as LineOfPlaces}, declared.reaches.Reach.{Reach}, Answers.{IsPadded, line_of}}
+use Rattle.smp_moves.specs.{Ends.{end_of, reach}, Moves.{IsLine, Line, turned}, Kept.Ends.{HasSmallEntries}}
 use Rattle.smp_moves.proofs.Entries.{turned_line}
-use Rattle.smp_stratcube.specs.Kept.Computed.{moved_values, moves}
-use Rattle.smp_stratcube.specs.Kept.Moves.{AreMoved, IsAlong}
-use Rattle.smp_stratcube.proofs.Ending.{length_moved, moved_is}
-use Rattle.smp_stratcube.proofs.Pairing.{pair_of_front}
-use Rattle.smp_stratcube.specs.declared.fronts.Front.{Front}
-use Rattle.smp_stratcube.specs.declared.values.Value.{Value}
-use Rattle.smp_stratcube.specs.Units.{Units, IsUnits, stratum}
+use Rattle.smp_stratcube.specs.{Kept.Computed.{moved_values, moves}, Kept.Moves.{AreMoved, IsAlong}, declared.fronts.Front.{Front}}
+use Rattle.smp_stratcube.proofs.{Ending.{length_moved, moved_is}, Pairing.{pair_of_front}, Ahead.{front_count, front_going, in_front}}
+use Rattle.smp_stratcube.specs.{declared.values.Value.{Value}, Units.{Units, IsUnits, stratum}, States.{IsPairing}}
 use Rattle.smp_stratcube.specs.Values.{fractional_count, fractional_units, is_fractional, is_settled, nothing, over_common, stratum_common, taken_over, value, common_of}
-use Rattle.smp_stratcube.specs.Pairs.{first_pair, paired_parts, step_units}
-use Rattle.smp_stratcube.specs.States.{IsPairing}
-use Rattle.smp_stratcube.specs.Kept.Fronts.{IsFront, front_units}
+use Rattle.smp_stratcube.specs.{Pairs.{first_pair, paired_parts, step_units}, Kept.Fronts.{IsFront, front_units}}
 use Rattle.smp_stratcube.specs.Kept.Pairs.{HasStratum, as_value, is_one_of, met_at, parts_of, settled_at, units_by}
-use Rattle.smp_stratcube.specs.Laws.Meetings.{step_in, step_open, step_some}
+use Rattle.smp_stratcube.specs.{Laws.Meetings.{step_in, step_open, step_some}, Laws.Units.{fractional_in}}
 use Rattle.smp_stratcube.specs.Laws.Pairs.{EachOf, IsMeeting, among_apart, each_of, first_among, pair_found, second_among, stands_at}
 use Rattle.smp_stratcube.specs.Laws.Taken.{length_taken, numer_over, taken_kept, taken_moved}
-use Rattle.smp_stratcube.specs.Laws.Units.{fractional_in}
-use Rattle.smp_stratcube.proofs.Ahead.{front_count, front_going, in_front}
 
 -- values of which these units have taken over numerators, and the others are as they were
 pub written : (ks : List ℕ) (values : List Value) (t : Shares) (new : List Value) → length new ≡ length values →
@@ -178,8 +164,7 @@ module _ (units : Units) (values : List Value) (ok : IsPairing units values) (fr
   pub settled_by : (draw m x : ℕ) (v : Value) → x ≡ v.at.num * (m / v.at.den) → v ≡ value values (get_or front.units 0 0) → m ≡ stratum_common units values (stratum units (get_or front.units 0 0))
       → (draw < x → as_value m m ≡ settled_at units values (get_or front.units 0 0) draw) × (x ≤ draw → as_value 0 m ≡ settled_at units values (get_or front.units 0 0) draw)
   settled_by draw m x v e same m_is =
-      let read = numer_read units values ok d unit m x v unit_some e same m_is in
-      (
+      let read = numer_read units values ok d unit m x v unit_some e same m_is in (
         (λ l. ap (λ (n : ℕ). as_value n n) m_is ∙ rw (lt-ltb draw (get_or t.numer unit 0) (omega (arith, read, l))) refl),
         (λ l. ap (as_value 0) m_is ∙ rw (le-ltb draw (get_or t.numer unit 0) (omega (arith, read, l))) refl),
       )

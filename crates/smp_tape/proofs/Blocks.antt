@@ -1,9 +1,7 @@
 -- The number that the first words of a stream make.
-use Rattle.std.proofs.Common.{◌≡◌, ℕ, suc, ◌+◌, ◌*◌, ◌^◌, ◌<◌, ◌≤◌, refl, sym, ap, ◌∙◌, arith, inl, inr, ◌⊎◌}
-use Rattle.std.proofs.lemmas.Bool.{cases_lt}
+use Rattle.std.proofs.{Common.{◌≡◌, ℕ, suc, ◌+◌, ◌*◌, ◌^◌, ◌<◌, ◌≤◌, refl, sym, ap, ◌∙◌, arith, inl, inr, ◌⊎◌}, lemmas.Bool.{cases_lt}}
 use Rattle.std.proofs.lemmas.Nat.{pow-add, pow_below}
-use Rattle.smp_tape.specs.Streams.{Stream, ahead, behind}
-use Rattle.smp_tape.specs.Sieves.{block}
+use Rattle.smp_tape.specs.{Streams.{Stream, ahead, behind}, Sieves.{block}}
 use Rattle.smp_tape.proofs.Streams.{behind_next}
 
 -- the first k words make this number, and what is behind them is left

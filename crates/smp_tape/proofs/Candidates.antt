@@ -1,10 +1,8 @@
 -- How a draw goes on from candidate to candidate.
 use Rattle.std.proofs.Common.{◌≡◌, ℕ, zero, suc, ◌+◌, ◌-◌, ◌*◌, ◌/◌, ◌%◌, ◌^◌, ◌<◌, ◌≤◌, ◌==◌, false, Ok, Err, refl, sym, ap, subst, ◌∙◌, arith, inl, inr}
-use Rattle.std.proofs.Math.Nat.{pow-suc}
-use Rattle.std.proofs.lemmas.Bool.{cases_lt, lt-ltb, le-ltb, ne_eqb}
-use Rattle.smp_tape.specs.declared.draws.DrawFault.TheVariants.{Rejected}
+use Rattle.std.proofs.{Math.Nat.{pow-suc}, lemmas.Bool.{cases_lt, lt-ltb, le-ltb, ne_eqb}}
+use Rattle.smp_tape.specs.{declared.draws.DrawFault.TheVariants.{Rejected}, Streams.{Stream, ahead, behind}}
 use Rattle.smp_tape.specs.Sieves.{halvings, binary_digits, bits_of, words_of, block, from_place, candidate, first_below, candidate_at, AllThrown, IsFirst, Taken, Thrown}
-use Rattle.smp_tape.specs.Streams.{Stream, ahead, behind}
 use Rattle.smp_tape.proofs.Streams.{ahead_behind, behind_more}
 
 -- ---- the number of binary digits

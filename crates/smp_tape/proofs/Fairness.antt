@@ -1,12 +1,9 @@
 -- Each value of a draw has the same number of blocks.
 use Rattle.std.proofs.Common.{◌≡◌, ◌≢◌, ℕ, zero, suc, ◌+◌, ◌-◌, ◌*◌, ◌/◌, ◌%◌, ◌^◌, ◌<◌, ◌≤◌, ◌==◌, Bool, true, false, cond, refl, sym, ap, ◌∙◌, subst, arith, inl, inr}
-use Rattle.std.proofs.Math.Nat.{pow-suc}
-use Rattle.std.proofs.lemmas.Bool.{cases_Bool, eqb-true, ne_eqb, eq-eqb}
+use Rattle.std.proofs.{Math.Nat.{pow-suc}, lemmas.Bool.{cases_Bool, eqb-true, ne_eqb, eq-eqb}, lemmas.List.Sums.{sum_by-cons}}
 use Rattle.std.proofs.lemmas.Nat.{pow-add, pow_pos, shr_below, mod-mul-add, div-add-mod'}
 use Rattle.std.specs.List.{count_by, range_with_len}
-use Rattle.std.proofs.lemmas.List.Sums.{sum_by-cons}
-use Rattle.smp_tape.specs.Sieves.{halvings, binary_digits, bits_of, words_of}
-use Rattle.smp_tape.specs.Fair.{IsFair}
+use Rattle.smp_tape.specs.{Sieves.{halvings, binary_digits, bits_of, words_of}, Fair.{IsFair}}
 
 -- ---- the bits of a bound hold its draws, and its words hold the bits
 

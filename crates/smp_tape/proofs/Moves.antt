@@ -1,10 +1,7 @@
 -- How the words of a key go on.
-use Rattle.std.proofs.Common.{◌≡◌, ℕ, zero, suc, ◌+◌, ◌%◌, ◌^◌, List, arith, refl, ap, ◌∙◌}
-use Rattle.std.proofs.Math.Nat.{mod-add-mod}
+use Rattle.std.proofs.{Common.{◌≡◌, ℕ, zero, suc, ◌+◌, ◌%◌, ◌^◌, List, arith, refl, ap, ◌∙◌}, Math.Nat.{mod-add-mod}}
 use Rattle.rand_chacha.specs.ChaCha.{word_at}
-use Rattle.smp_tape.specs.Keys.{Place, key_word}
-use Rattle.smp_tape.specs.SieveSources.{key_stream}
-use Rattle.smp_tape.specs.Streams.{ahead, behind}
+use Rattle.smp_tape.specs.{Keys.{Place, key_word}, SieveSources.{key_stream}, Streams.{ahead, behind}}
 
 abbrev at_place : List ℕ → ℕ → Place
 at_place key next = record { key = key; next = next }

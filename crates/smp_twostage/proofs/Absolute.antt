@@ -1,9 +1,7 @@
 -- The absolute values of the same fraction are the same.
-use Rattle.std.proofs.Common.{◌≡◌, ℕ, ◌*◌, ℤ, pos, ◌*ℤ◌, ap, ◌∙◌, sym}
+use Rattle.std.proofs.{Common.{◌≡◌, ℕ, ◌*◌, ℤ, pos, ◌*ℤ◌, ap, ◌∙◌, sym}, lemmas.Int.{unsigned_abs-mul}}
 use Rattle.std.specs.Int.RustNames.{unsigned_abs}
-use Rattle.std.proofs.lemmas.Int.{unsigned_abs-mul}
-use Rattle.smp_frac.specs.Fractions.{Fraction, Same}
-use Rattle.smp_frac.specs.Bounds.{absolute}
+use Rattle.smp_frac.specs.{Fractions.{Fraction, Same}, Bounds.{absolute}}
 
 abs_times : (z : ℤ) (d : ℕ) → unsigned_abs (z *ℤ pos d) ≡ unsigned_abs z * d
 abs_times z d = unsigned_abs-mul z (pos d)

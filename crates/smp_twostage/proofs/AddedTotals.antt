@@ -1,13 +1,10 @@
 -- What is balanced stays so where each total, what is known of it, and what is estimated have the same added to them: the part of units
 -- that are certain. Rows may be more than those that are balanced, where nothing is left to be drawn in these.
-use Rattle.std.proofs.Common.{◌≡◌, ℕ, ◌<◌, ◌≤◌, true, List, arith, inl, inr}
-use Rattle.std.proofs.lemmas.Bool.{cases_lt}
-use Rattle.smp_frac.specs.Fractions.{AtMost, Fraction, Same, plus, whole}
-use Rattle.smp_frac.specs.Bounds.{DifferByAtMost}
+use Rattle.std.proofs.{Common.{◌≡◌, ℕ, ◌<◌, ◌≤◌, true, List, arith, inl, inr}, lemmas.Bool.{cases_lt}}
+use Rattle.smp_frac.specs.{Fractions.{AtMost, Fraction, Same, plus, whole}, Bounds.{DifferByAtMost}}
 use Rattle.smp_frac.proofs.Arithmetic.{plus-zero, plus_assoc, plus_left_comm, plus_same, same_refl, same_sym, same_trans}
 use Rattle.smp_frac.proofs.Bounds.{differ_by_same, differ_same, most_of_same, plus_most, same_most}
-use Rattle.smp_split.specs.Paths.{Entry, Leads}
-use Rattle.smp_split.specs.Trees.{picked}
+use Rattle.smp_split.specs.{Paths.{Entry, Leads}, Trees.{picked}}
 use Rattle.smp_moves.specs.Balances.{Balance, IsBalanced, IsBeforeLanding, LandsAt}
 use Rattle.smp_moves.proofs.Owed.{lands_or_not}
 

@@ -1,42 +1,26 @@
 -- The selection of one stratum alone is a part of the whole.
 use Rattle.std.proofs.Common.{◌≡◌, ℕ, zero, suc, ◌+◌, ◌<◌, ◌≤◌, true, false, List, [], ◌∷◌, ◌++◌, length, map, take, drop, Option, Some, None, arith, refl, sym, ap, subst, ◌∙◌, inl, inr, length-append, append_assoc, append-nil}
-use Rattle.std.specs.Prelude.{option_map}
-use Rattle.std.specs.List.{slice_get}
-use Rattle.std.proofs.lemmas.Bool.{cases_Bool, eqb-true}
-use Rattle.std.proofs.lemmas.List.{drop-map, length-map, take-map}
-use Rattle.std.proofs.lemmas.Option.{slice_get_within}
+use Rattle.std.specs.{Prelude.{option_map}, List.{slice_get}}
+use Rattle.std.proofs.{lemmas.Bool.{cases_Bool, eqb-true}, lemmas.List.{drop-map, length-map, take-map}, lemmas.Option.{slice_get_within}}
 use Rattle.std.proofs.Math.Seq.{drop-append_seam}
 use Rattle.smp_frac.specs.Fractions.{Fraction, Same, whole}
 use Rattle.smp_frac.proofs.Arithmetic.{same_refl, same_trans}
-use Rattle.smp_split.specs.Sectioning.{IsPartOf}
+use Rattle.smp_split.specs.{Sectioning.{IsPartOf}, declared.places.Stage.{Stage}, StageStarts.{StartsInStages}}
 use Rattle.smp_prob.specs.declared.requests.Request.{Request}
-use Rattle.smp_design.specs.declared.method.Method.{Method}
-use Rattle.smp_design.specs.Words.{draws_together}
-use Rattle.smp_methods.specs.declared.any.AnyState.{AnyState}
-use Rattle.smp_methods.specs.Designs.{first_state}
+use Rattle.smp_design.specs.{declared.method.Method.{Method}, Words.{draws_together}}
+use Rattle.smp_methods.specs.{declared.any.AnyState.{AnyState}, Designs.{first_state}}
 use Rattle.smp_split.specs.declared.places.Seat.TheVariants as seat
-use Rattle.smp_split.specs.declared.places.Stage.{Stage}
 use Rattle.smp_split.specs.OwnStages.{AreTheirOwn, run_of, seat_later, sections_by, stage_later}
-use Rattle.smp_split.specs.StageStarts.{StartsInStages}
 use Rattle.smp_split.specs.Stages.{IsUnderWay, Progress, progress, seat_selected, seat_value, unit_selected, unit_value}
 use Rattle.smp_split.proofs.OwnStages.{is_part}
-use Rattle.smp_strata.specs.Plans.{Plan}
-use Rattle.smp_strata.specs.declared.strata.FirstUnit.{FirstUnit}
-use Rattle.smp_strata.specs.declared.strata.Seat.{Seat}
+use Rattle.smp_strata.specs.{Plans.{Plan}, declared.strata.FirstUnit.{FirstUnit}, declared.strata.Seat.{Seat}}
 use Rattle.smp_strata.specs.declared.strata.Stratum.{Stratum}
-use Rattle.smp_twostage.specs.Covered.{StartsAlone}
-use Rattle.smp_twostage.specs.Kept.Stages.{EachStarts}
-use Rattle.smp_twostage.specs.Plans.{CanBeDrawn}
+use Rattle.smp_twostage.specs.{Covered.{StartsAlone}, Kept.Stages.{EachStarts}, Plans.{CanBeDrawn}, Kept.Sides.{states_of}}
 use Rattle.smp_twostage.specs.Selections.{BelongsToWhole, Selecting, all_of, belongs_to, first_number, first_stage, is_of_stratum, parts_by, place_of, seat_alone, seat_by, seats_by, seats_of, stage_by, stage_within, stages_below, stages_in, stages_of, stages_within, tree_of}
-use Rattle.smp_twostage.specs.Kept.Sides.{states_of}
-use Rattle.smp_twostage.specs.Kept.Sides.{section_count_by, stages_before_by, stages_by}
-use Rattle.smp_twostage.specs.Laws.Covered.{alone_staged, length_alone, made_at, strata_are}
-use Rattle.smp_twostage.specs.Laws.Numbering.{less_or_same}
-use Rattle.smp_twostage.specs.Laws.Staged.{length_seats, seat_at}
-use Rattle.smp_twostage.proofs.Firsts.{start_belongs}
-use Rattle.smp_twostage.proofs.AloneBy.{AloneBy, own_fraction, own_state, starts_alone_by, tree_alone}
-use Rattle.smp_twostage.proofs.StartsBy.{tree_so}
-use Rattle.smp_twostage.proofs.Values.{alone_value_is}
+use Rattle.smp_twostage.specs.{Kept.Sides.{section_count_by, stages_before_by, stages_by}, Laws.Numbering.{less_or_same}}
+use Rattle.smp_twostage.specs.{Laws.Covered.{alone_staged, length_alone, made_at, strata_are}, Laws.Staged.{length_seats, seat_at}}
+use Rattle.smp_twostage.proofs.{Firsts.{start_belongs}, AloneBy.{AloneBy, own_fraction, own_state, starts_alone_by, tree_alone}}
+use Rattle.smp_twostage.proofs.{StartsBy.{tree_so}, Values.{alone_value_is}}
 
 -- ---- the list of the one stratum
 

@@ -2,22 +2,15 @@
 use Rattle.std.proofs.Common.{◌≡◌, ℕ, ◌<◌, Bool, false}
 use Rattle.std.specs.Prelude.{if◌then◌else◌}
 use Rattle.smp_frac.specs.Fractions.{Fraction, Same, whole}
-use Rattle.smp_split.specs.Means.{inclusion_probability}
-use Rattle.smp_split.specs.Sectioning.{IsPartOf}
-use Rattle.smp_split.specs.Paths.{IsReached}
-use Rattle.smp_split.specs.Trees.{Tree}
+use Rattle.smp_split.specs.{Means.{inclusion_probability}, Sectioning.{IsPartOf}, Paths.{IsReached}, Trees.{Tree}}
 use Rattle.smp_split.proofs.Sectioned.{part_within}
-use Rattle.smp_split.specs.Laws.Steps.{leads_belong}
+use Rattle.smp_split.specs.{Laws.Steps.{leads_belong}, OwnStages.{own_progress, sections_by}}
 use Rattle.smp_methods.specs.declared.any.AnyState.{AnyState}
-use Rattle.smp_split.specs.OwnStages.{own_progress, sections_by}
 use Rattle.smp_split.specs.Stages.{IsUnderWay, Progress, progress, staged_tree}
 use Rattle.smp_strata.specs.Plans.{Plan}
-use Rattle.smp_twostage.specs.Covered.{StartsAlone, state_alone}
-use Rattle.smp_twostage.specs.Laws.Wholes.{whole_lawful}
+use Rattle.smp_twostage.specs.{Covered.{StartsAlone, state_alone}, Laws.Wholes.{whole_lawful}, Selections.{tree_of}, Starts.{row_fraction}}
 use Rattle.smp_twostage.specs.Selections.{BelongsToWhole, all_of, belongs_to, covered_tree, is_of_section, is_together, one_of, start_of, strata_sections, whole_tree}
-use Rattle.smp_twostage.specs.Selections.{tree_of}
 use Rattle.smp_twostage.specs.Kept.Sides.{is_in_section, seats_in, section_count_by, stages_before_by, stages_by}
-use Rattle.smp_twostage.specs.Starts.{row_fraction}
 use Rattle.smp_twostage.proofs.StartsBy.{states_so, stages_so, tree_so}
 
 module _ (together : Bool) (plan : Plan) (h : ℕ) where

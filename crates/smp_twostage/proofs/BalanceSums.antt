@@ -1,14 +1,10 @@
 -- Sums over the units that were drawn, as the report adds them up.
-use Rattle.std.proofs.Common.{ℕ, zero, suc, ◌+◌, ◌<◌, Bool, cond, ℤ, pos, ◌+ℤ◌, map, arith, subst, inl, inr}
-use Rattle.std.specs.Prelude.{nat_eq}
-use Rattle.std.specs.List.{range_with_len}
-use Rattle.std.proofs.lemmas.Bool.{cases_Bool}
+use Rattle.std.proofs.{Common.{ℕ, zero, suc, ◌+◌, ◌<◌, Bool, cond, ℤ, pos, ◌+ℤ◌, map, arith, subst, inl, inr}, lemmas.Bool.{cases_Bool}}
+use Rattle.std.specs.{Prelude.{nat_eq}, List.{range_with_len}}
 use Rattle.std.proofs.lemmas.Int.{ints}
-use Rattle.smp_frac.specs.Fractions.{Fraction, Same, integer, plus, sum_below, times, whole}
+use Rattle.smp_frac.specs.{Fractions.{Fraction, Same, integer, plus, sum_below, times, whole}, declared.fractions.Frac.{Frac}}
 use Rattle.smp_frac.proofs.Arithmetic.{plus-zero, plus_assoc, plus_same, same_refl, same_sym, same_trans, zero-plus}
-use Rattle.smp_frac.specs.declared.fractions.Frac.{Frac}
-use Rattle.smp_weights.specs.Chosen.{chosen_units, weight}
-use Rattle.smp_weights.specs.Values.{weighted_total}
+use Rattle.smp_weights.specs.{Chosen.{chosen_units, weight}, Values.{weighted_total}}
 use Rattle.smp_twostage.specs.DrawnLines.{known_sum}
 
 pub sum_first : (n : ℕ) (f : ℕ → Fraction) → Same (sum_below (suc n) f) (plus (f 0) (sum_below n (λ k. f (suc k))))

@@ -2,22 +2,16 @@
 use Rattle.std.proofs.Common.{◌≡◌, ◌≢◌, ℕ, zero, suc, ◌*◌, ◌<◌, ◌≤◌, mul-pos, Bool, true, false, cond, ℤ, pos, List, [], length, arith, refl, sym, ap, ◌∙◌, subst}
 use Rattle.std.specs.Prelude.{slice_index}
 use Rattle.std.proofs.lemmas.List.{get_or-map}
-use Rattle.smp_frac.specs.Fractions.{Fraction, Same, whole, integer, plus, times, inverse}
-use Rattle.smp_frac.specs.Bounds.{absolute}
+use Rattle.smp_frac.specs.{Fractions.{Fraction, Same, whole, integer, plus, times, inverse}, Bounds.{absolute}}
 use Rattle.smp_frac.proofs.Arithmetic.{same_refl, same_sym, same_trans, times_same, times-one, times-zero, zero-plus, plus-zero, zero-plus-zero, inverse_same}
 use Rattle.smp_twostage.proofs.Absolute.{absolute_same}
 use Rattle.smp_kernel.specs.Vectors.{entry}
-use Rattle.smp_prob.specs.declared.inclusions.Inclusion.{Inclusion}
-use Rattle.smp_prob.specs.declared.inclusions.Inclusion.TheVariants.{Certain, Free, Never}
-use Rattle.smp_prob.specs.Shares.{shares_of}
-use Rattle.smp_prob.specs.Inclusions.{inclusion, is_taken, fraction_at, free_fraction, asked_fraction}
+use Rattle.smp_prob.specs.{declared.inclusions.Inclusion.{Inclusion}, declared.inclusions.Inclusion.TheVariants.{Certain, Free, Never}}
+use Rattle.smp_prob.specs.{Shares.{shares_of}, Inclusions.{inclusion, is_taken, fraction_at, free_fraction, asked_fraction}}
 use Rattle.smp_values.specs.Values.{value_at}
-use Rattle.smp_split.specs.Rows.{row_value}
-use Rattle.smp_split.specs.Laws.Rows.{free_within}
-use Rattle.smp_flight.specs.States.{column}
-use Rattle.smp_flight.specs.Totals.{expanded, addend}
-use Rattle.smp_flight.proofs.CubeStarts.{starts_requested}
-use Rattle.smp_flight.proofs.Making.{column_at}
+use Rattle.smp_split.specs.{Rows.{row_value}, Laws.Rows.{free_within}}
+use Rattle.smp_flight.specs.{States.{column}, Totals.{expanded, addend}}
+use Rattle.smp_flight.proofs.{CubeStarts.{starts_requested}, Making.{column_at}}
 use Rattle.smp_twostage.specs.Strata.{StratumUnits, AreStratumUnits, values_of, value_in, free_values, free_units}
 use Rattle.smp_twostage.specs.Totals.{can_be_selected, counted, is_undecided, known_value}
 use Rattle.smp_split.proofs.RowSums.{free_is, at_free}

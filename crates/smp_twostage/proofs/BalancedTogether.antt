@@ -1,33 +1,21 @@
 -- What the cube over all strata balances among the free units, it balances over all units: the certain ones add the same to each total.
 use Rattle.std.proofs.Common.{◌≡◌, ℕ, suc, ◌+◌, ◌<◌, ◌≤◌, ◌⊎◌, Bool, true, false, cond, List, [], ◌∷◌, All, length, map, get_or, arith, refl, sym, ◌∙◌, subst, inl, inr}
-use Rattle.std.proofs.lemmas.Bool.{cases_eq, eq-eqb, ne_eqb}
-use Rattle.std.proofs.lemmas.List.{get_or-map, length-map}
+use Rattle.std.proofs.{lemmas.Bool.{cases_eq, eq-eqb, ne_eqb}, lemmas.List.{get_or-map, length-map}}
 use Rattle.std.proofs.lemmas.List.Elements.{All-cons, All-head, All-nil, All-tail}
-use Rattle.smp_frac.specs.Fractions.{Fraction, Same, plus, sum_below, times, whole}
-use Rattle.smp_frac.specs.Bounds.{absolute}
+use Rattle.smp_frac.specs.{Fractions.{Fraction, Same, plus, sum_below, times, whole}, Bounds.{absolute}}
 use Rattle.smp_frac.proofs.Arithmetic.{plus_same, same_refl, same_sym, same_trans, times_same, zero-times}
-use Rattle.smp_moves.specs.Owed.{balance_of}
-use Rattle.smp_moves.specs.Cubes.{values_in}
+use Rattle.smp_moves.specs.{Owed.{balance_of}, Cubes.{values_in}, Balances.{IsBalanced}}
 use Rattle.smp_flight.specs.Totals as free
-use Rattle.smp_stratcube.specs.Balances.{addend, expanded, weighed_of}
-use Rattle.smp_stratcube.specs.States.{Balancing, started}
-use Rattle.smp_stratcube.specs.Layers.{AreLayers, IsLayer, Layer, no_layer, variables}
-use Rattle.smp_stratcube.specs.Kept.Layers.{width, first_of}
-use Rattle.smp_stratcube.specs.Units.{IsUnits, Units, members_from}
+use Rattle.smp_stratcube.specs.{Balances.{addend, expanded, weighed_of}, States.{Balancing, started}, Kept.Layers.{width, first_of}}
+use Rattle.smp_stratcube.specs.{Layers.{AreLayers, IsLayer, Layer, no_layer, variables}, Units.{IsUnits, Units, members_from}}
 use Rattle.smp_stratcube.specs.Values.{is_fractional, is_one, value_at}
-use Rattle.smp_moves.specs.Balances.{IsBalanced}
-use Rattle.smp_stratcube.proofs.Balances.{started_flying}
-use Rattle.smp_stratcube.proofs.BySteps.{is_balanced as strat_balanced}
-use Rattle.smp_stratcube.proofs.Layered.{units_are}
+use Rattle.smp_stratcube.proofs.{Balances.{started_flying}, BySteps.{is_balanced as strat_balanced}, Layered.{units_are}}
 use Rattle.smp_twostage.specs.Strata.{StratumUnits, AreStratumUnits, column_count, free_units, free_values}
 use Rattle.smp_twostage.specs.Totals.{EachFrameIsBalanced, IsBalancedFrame, IsFrame, columns_in, error_bound, estimate, frame_balance, frame_units, known, layers_of, over_frame, total}
-use Rattle.smp_twostage.proofs.Absolute.{absolute_same}
-use Rattle.smp_twostage.proofs.AddedTotals.{is_added}
+use Rattle.smp_twostage.proofs.{Absolute.{absolute_same}, AddedTotals.{is_added}, LayerRuns.{all_units}, BalanceTerms.{cond_same}}
 use Rattle.smp_twostage.proofs.Balances.{bound_apart, bound_in, estimate_apart, estimate_in, fixed, free_are_values, known_apart, known_in, one_each, same_length, total_apart, total_in}
 use Rattle.smp_twostage.proofs.FrameSums.{ArePaired, both, layer_in, over_plus, over_same}
 use Rattle.smp_twostage.proofs.FrameTerms.{Counts, IsIn, added, adds, counted, counts_for, over_units, part_of}
-use Rattle.smp_twostage.proofs.LayerRuns.{all_units}
-use Rattle.smp_twostage.proofs.BalanceTerms.{cond_same}
 
 -- ---- the strata as they are drawn from
 

@@ -1,52 +1,29 @@
 -- Every selection from a stratum is balanced where that from its free units is.
 use Rattle.std.proofs.Common.{◌≡◌, ℕ, zero, suc, ◌+◌, ◌-◌, ◌^◌, ◌<◌, ◌≤◌, Bool, cond, ℤ, List, [], ◌∷◌, length, get_or, arith, refl, sym, ap, ◌∙◌, subst, inl, inr, ◌⊎◌}
 use Rattle.std.specs.Prelude.{slice_index}
-use Rattle.std.proofs.lemmas.Bool.{cases_eq}
-use Rattle.std.proofs.lemmas.List.{get_or-map, length-map}
-use Rattle.smp_frac.specs.Fractions.{Fraction, Same, whole, plus, times, sum_below}
-use Rattle.smp_frac.specs.Bounds.{absolute}
+use Rattle.std.proofs.{lemmas.Bool.{cases_eq}, lemmas.List.{get_or-map, length-map}}
+use Rattle.smp_frac.specs.{Fractions.{Fraction, Same, whole, plus, times, sum_below}, Bounds.{absolute}}
 use Rattle.smp_frac.proofs.Arithmetic.{same_refl, same_sym, same_trans, plus_same, plus-zero, sum-zero}
 use Rattle.smp_kernel.specs.Vectors.{Within}
 use Rattle.smp_prob.specs.Inclusions.{inclusion, is_taken}
-use Rattle.smp_split.specs.Rows.{row_value}
-use Rattle.smp_split.specs.Trees.{Tree}
-use Rattle.smp_values.specs.Values.{is_fractional, is_one, value_at}
-use Rattle.smp_moves.specs.Cubes.{values_in}
+use Rattle.smp_split.specs.{Rows.{row_value}, Trees.{Tree}, Paths.{Entry, Leads}, Laws.Steps.{leads_belong}}
+use Rattle.smp_values.specs.Values.{is_fractional, is_one, value_at, fractional_units}
+use Rattle.smp_moves.specs.{Cubes.{values_in, flying}, Steps.{IsNext}, Moves.{IsOrder}, Balances.{IsBalanced}}
 use Rattle.smp_flight.specs.States as flights
-use Rattle.smp_flight.specs.States.{Flight}
-use Rattle.smp_moves.specs.Steps.{IsNext}
-use Rattle.smp_flight.specs.Moves.{setting_of}
-use Rattle.smp_flight.specs.Steps.{next, stepping}
-use Rattle.smp_values.specs.Values.{fractional_units}
-use Rattle.smp_moves.specs.Cubes.{flying}
-use Rattle.smp_moves.specs.Moves.{IsOrder}
-use Rattle.smp_split.specs.Paths.{Entry, Leads}
-use Rattle.smp_split.specs.Laws.Steps.{leads_belong}
-use Rattle.smp_flight.specs.Cube.{cube_tree}
-use Rattle.smp_flight.specs.Laws.CubeSplits.{cube_lawful}
-use Rattle.smp_flight.specs.Requests.{AreValues}
+use Rattle.smp_flight.specs.{States.{Flight}, Moves.{setting_of}, Steps.{next, stepping}, Cube.{cube_tree}, Laws.CubeSplits.{cube_lawful}}
+use Rattle.smp_flight.specs.{Requests.{AreValues}, Totals.{expanded, addend, row_total, target}, Laws.NextProperties.{started_flight}}
 use Rattle.smp_flight.specs.Totals as free
-use Rattle.smp_flight.specs.Totals.{expanded, addend, row_total, target}
-use Rattle.smp_flight.proofs.Making.{rows_are, units_are}
-use Rattle.smp_flight.specs.Laws.NextProperties.{started_flight}
-use Rattle.smp_flight.specs.Selections.{Balancing, IsBalancing, IsSelection, Selection, starting}
+use Rattle.smp_flight.proofs.{Making.{rows_are, units_are}, Seen.{total_is as seen_total}, CubeStarts.{cube_balances}}
+use Rattle.smp_flight.specs.{Selections.{Balancing, IsBalancing, IsSelection, Selection, starting}, Landings.{weighed_of}, Cube.{cube_of}}
 use Rattle.smp_moves.specs.Owed.{balance_of as weighed_balance, weighed_bound, weighed_estimate, weighed_total}
-use Rattle.smp_flight.specs.Landings.{weighed_of}
 use Rattle.smp_flight.specs.Landings as landings
-use Rattle.smp_flight.proofs.Seen.{total_is as seen_total}
-use Rattle.smp_flight.specs.Cube.{cube_of}
 use Rattle.smp_flight.specs.Laws.CubeSplits.{is_cube}
-use Rattle.smp_flight.proofs.CubeStarts.{cube_balances}
-use Rattle.smp_localcube.specs.Local.{IsLocal, local_of}
-use Rattle.smp_localcube.specs.Method.{LocalUnits, started}
-use Rattle.smp_localcube.specs.Laws.Splits.{is_local_cube}
+use Rattle.smp_localcube.specs.{Local.{IsLocal, local_of}, Method.{LocalUnits, started}, Laws.Splits.{is_local_cube}}
 use Rattle.smp_localcube.proofs.Starts.{local_balances, started_local}
-use Rattle.smp_moves.specs.Balances.{IsBalanced}
 use Rattle.smp_twostage.specs.Strata.{StratumUnits, AreStratumUnits, values_of, column_count, free_values, free_units}
 use Rattle.smp_twostage.specs.Totals.{AreBalanced, EachIsBalanced, balance_of, counted, error_bound, estimate, is_undecided, known, known_of, row_count, total}
 use Rattle.smp_split.proofs.RowSums.{at_free, sum_apart}
-use Rattle.smp_twostage.proofs.AddedTotals.{is_added}
-use Rattle.smp_twostage.proofs.OneStratum.{alone, from_first}
+use Rattle.smp_twostage.proofs.{AddedTotals.{is_added}, OneStratum.{alone, from_first}}
 use Rattle.smp_twostage.proofs.BalanceTerms.{fixed_at, known_at, total_term, estimate_term, known_term, error_term}
 
 -- what the certain units of a stratum add to a row

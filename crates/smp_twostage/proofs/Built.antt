@@ -4,9 +4,7 @@ use Rattle.std.specs.List.{slice_get, range_with_len}
 use Rattle.std.proofs.lemmas.List.FromFn.{map-range_with_len_more}
 use Rattle.smp_design.specs.declared.method.Method.{Method}
 use Rattle.smp_split.specs.declared.places.Stage.{Stage}
-use Rattle.smp_strata.specs.Plans.{Plan}
-use Rattle.smp_strata.specs.declared.strata.FirstUnit.{FirstUnit}
-use Rattle.smp_strata.specs.declared.strata.Stratum.{Stratum}
+use Rattle.smp_strata.specs.{Plans.{Plan}, declared.strata.FirstUnit.{FirstUnit}, declared.strata.Stratum.{Stratum}}
 use Rattle.smp_twostage.specs.Selections.{Selecting, first_number, stage_by, stages_below, stages_in, stages_within}
 
 -- the stage within one more unit

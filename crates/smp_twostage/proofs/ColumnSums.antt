@@ -1,14 +1,10 @@
 -- What is told of the units that were drawn, in the numbers of the code.
 use Rattle.std.proofs.Common.{◌≡◌, ◌≢◌, ℕ, suc, ◌+◌, ◌-◌, ◌*◌, ◌^◌, ◌<◌, ◌≤◌, Bool, true, false, cond, ℤ, pos, ◌+ℤ◌, List, [], drop, length, get_or, arith, sym, ap, ap₂, ◌∙◌, drop-cons, FitsSigned, SFits, w64}
-use Rattle.std.specs.Prelude.{nat_eq}
-use Rattle.std.specs.Int.RustNames.{unsigned_abs}
-use Rattle.std.proofs.lemmas.Bool.{eq-eqb, ne_eqb}
-use Rattle.std.proofs.lemmas.Int.{fits_signed_from_abs, ints}
-use Rattle.std.proofs.lemmas.List.{drop_all, get_or-map}
+use Rattle.std.specs.{Prelude.{nat_eq}, Int.RustNames.{unsigned_abs}}
+use Rattle.std.proofs.{lemmas.Bool.{eq-eqb, ne_eqb}, lemmas.Int.{fits_signed_from_abs, ints}, lemmas.List.{drop_all, get_or-map}}
 use Rattle.smp_frac.specs.declared.fractions.Frac.{Frac}
 use Rattle.smp_kernel.specs.Vectors.{entry}
-use Rattle.smp_kernel.proofs.Fits.{abs_sum}
-use Rattle.smp_kernel.proofs.Limits.{entry_within}
+use Rattle.smp_kernel.proofs.{Fits.{abs_sum}, Limits.{entry_within}}
 use Rattle.smp_twostage.specs.DrawnLines.{AreTold, Drawn, column_of, known_sum}
 
 -- what is summed up of the first rows

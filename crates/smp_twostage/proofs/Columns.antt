@@ -1,22 +1,16 @@
 -- A plan's method takes the values that its units have.
 use Rattle.std.proofs.Common.{◌≡◌, ℕ, ◌+◌, ◌-◌, ◌^◌, ◌<◌, ◌≤◌, ℤ, List, [], ◌∷◌, ◌++◌, length, map, drop, get_or, Some, All, arith, refl, sym, ap, subst, ◌∙◌}
 use Rattle.std.specs.List.{slice_get}
-use Rattle.std.proofs.lemmas.List.{get_or-map, length-map}
-use Rattle.std.proofs.lemmas.List.Elements.{All-get_or, All-map, All-weaker}
+use Rattle.std.proofs.{lemmas.List.{get_or-map, length-map}, lemmas.List.Elements.{All-get_or, All-map, All-weaker}}
 use Rattle.std.proofs.lemmas.Option.{slice_get_read, slice_get_within, get_or_from_slice_get}
 use Rattle.smp_frame.specs.Bounds.{AreNear}
 use Rattle.smp_kernel.specs.Vectors.{Within}
 use Rattle.smp_values.specs.Starts.{DrawsWhole}
-use Rattle.smp_methods.specs.Designs.{design_of}
-use Rattle.smp_methods.specs.Procedures.{TakesValues}
+use Rattle.smp_methods.specs.{Designs.{design_of}, Procedures.{TakesValues}}
 use Rattle.smp_methods.proofs.Columns.{procedure_takes, same_design}
-use Rattle.smp_strata.specs.Bounds.{IsFirst, IsOver, IsStratum}
-use Rattle.smp_strata.specs.Plans.{Plan}
-use Rattle.smp_strata.specs.declared.strata.FirstUnit.{FirstUnit}
+use Rattle.smp_strata.specs.{Bounds.{IsFirst, IsOver, IsStratum}, Plans.{Plan}, declared.strata.FirstUnit.{FirstUnit}}
 use Rattle.smp_strata.specs.declared.strata.Stratum.{Stratum}
-use Rattle.smp_twostage.specs.Kept.Stages.{IsPlanned}
-use Rattle.smp_twostage.specs.Plans.{CanBeDrawn}
-use Rattle.smp_twostage.specs.Strata.{free_values, values_of}
+use Rattle.smp_twostage.specs.{Kept.Stages.{IsPlanned}, Plans.{CanBeDrawn}, Strata.{free_values, values_of}}
 use Rattle.smp_twostage.specs.Selections.{balancing, first_stage, free_points}
 use Rattle.smp_twostage.proofs.ToldLines.{next_mapped}
 

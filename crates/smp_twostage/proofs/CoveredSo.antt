@@ -1,14 +1,10 @@
 -- What is covered, where it is known whether all strata are drawn together.
 use Rattle.std.proofs.Common.{◌≡◌, ℕ, suc, Bool, List, map, sym, ap, subst, ◌∙◌}
 use Rattle.std.specs.List.{range_with_len}
-use Rattle.smp_methods.specs.declared.any.AnyState.{AnyState}
-use Rattle.smp_methods.specs.Designs.{first_state}
-use Rattle.smp_split.specs.declared.places.Stage.{Stage}
-use Rattle.smp_split.specs.StageStarts.{StartsInStages}
-use Rattle.smp_split.specs.Stages.{Progress, progress}
-use Rattle.smp_twostage.specs.Kept.Stages.{EachStarts, first_numbers}
+use Rattle.smp_methods.specs.{declared.any.AnyState.{AnyState}, Designs.{first_state}}
+use Rattle.smp_split.specs.{declared.places.Stage.{Stage}, StageStarts.{StartsInStages}, Stages.{Progress, progress}}
+use Rattle.smp_twostage.specs.{Kept.Stages.{EachStarts, first_numbers}, Selections.{tree_of}}
 use Rattle.smp_twostage.specs.Selections.{Coverage, Selecting, belongs_to, covered_seats, covered_stages, covered_start, covered_states, is_together}
-use Rattle.smp_twostage.specs.Selections.{tree_of}
 use Rattle.smp_twostage.specs.Kept.Sides.{seats_in, section_count_by, stages_before_by, stages_by}
 use Rattle.smp_twostage.proofs.Starts.{states_are}
 

@@ -1,45 +1,27 @@
 -- A stratum's part of a path of the whole selection is one of its method's own paths.
 use Rattle.std.proofs.Common.{◌≡◌, ℕ, Bool, true, false, List, length, Option, Some, None, arith, refl, sym, ap, subst, ◌∙◌, inl, inr}
-use Rattle.std.specs.Prelude.{◌&&◌, option_map}
-use Rattle.std.specs.List.{slice_get}
+use Rattle.std.specs.{Prelude.{◌&&◌, option_map}, List.{slice_get}}
 use Rattle.std.proofs.lemmas.Option.{slice_get_within, slice_get-map}
 use Rattle.smp_prob.specs.Inclusions.{inclusion, is_taken}
-use Rattle.smp_split.specs.Embeds.{embedded}
-use Rattle.smp_split.specs.Lenses.{as_unit}
-use Rattle.smp_split.specs.Paths.{Entry, Leads}
-use Rattle.smp_split.specs.Trees.{Tree}
+use Rattle.smp_split.specs.{Embeds.{embedded}, Lenses.{as_unit}, Paths.{Entry, Leads}, Trees.{Tree}, Laws.Lenses.{came_whole}}
 use Rattle.smp_split.proofs.Embeds.{embedded_lens, embedded_closes}
-use Rattle.smp_split.specs.Laws.Lenses.{came_whole}
-use Rattle.smp_split.specs.Rows.{rows_tree}
-use Rattle.smp_split.specs.Laws.Rows.{row_view, rows_lens, rows_close}
+use Rattle.smp_split.specs.{Rows.{rows_tree}, Laws.Rows.{row_view, rows_lens, rows_close}, StagePaths.{GoesByStages, IsStagePath}}
 use Rattle.smp_moves.specs.Cubes.{values_in}
-use Rattle.smp_flight.specs.Selections.{Balancing, starting}
+use Rattle.smp_flight.specs.{Selections.{Balancing, starting}, Cube.{cube_of, cube_tree}}
 use Rattle.smp_values.specs.Values.{is_one}
-use Rattle.smp_flight.specs.Cube.{cube_of, cube_tree}
-use Rattle.smp_localcube.specs.Local.{Local, local_of, local_tree}
-use Rattle.smp_localcube.specs.Method.{started}
-use Rattle.smp_design.specs.declared.method.Method.{Method}
-use Rattle.smp_design.specs.declared.method.Method.TheVariants.{Cube, LocalCube}
+use Rattle.smp_localcube.specs.{Local.{Local, local_of, local_tree}, Method.{started}}
+use Rattle.smp_design.specs.{declared.method.Method.{Method}, declared.method.Method.TheVariants.{Cube, LocalCube}}
 use Rattle.smp_design.specs.Words.{balances, draws_together}
 use Rattle.smp_design.proofs.Rows.{is_cube}
-use Rattle.smp_methods.specs.declared.any.AnyDesign.{AnyDesign}
-use Rattle.smp_methods.specs.declared.any.AnyState.{AnyState}
+use Rattle.smp_methods.specs.{declared.any.AnyDesign.{AnyDesign}, declared.any.AnyState.{AnyState}, Designs.{design_by, first_state}}
 use Rattle.smp_methods.specs.declared.any.AnyState.TheVariants as states
-use Rattle.smp_methods.specs.Designs.{design_by, first_state}
 use Rattle.smp_methods.specs.Methods.{method_of}
-use Rattle.smp_split.specs.StagePaths.{GoesByStages, IsStagePath}
-use Rattle.smp_split.specs.Stages.{drawn_within, is_drawn, read, unit_selected, within_of}
-use Rattle.smp_split.specs.Laws.Reads.{some_within}
-use Rattle.smp_strata.specs.Plans.{Plan}
-use Rattle.smp_strata.specs.declared.strata.Stratum.{Stratum}
+use Rattle.smp_split.specs.{Stages.{drawn_within, is_drawn, read, unit_selected, within_of}, Laws.Reads.{some_within}}
+use Rattle.smp_strata.specs.{Plans.{Plan}, declared.strata.Stratum.{Stratum}}
 use Rattle.smp_twostage.specs.Cubes.{IsDrawnByCube, IsDrawnFrom, balancing, by_cube, by_local_cube, leaf_of, local_units}
-use Rattle.smp_twostage.specs.Plans.{CanBeDrawn}
-use Rattle.smp_twostage.specs.Strata.{free_units, free_values}
+use Rattle.smp_twostage.specs.{Plans.{CanBeDrawn}, Strata.{free_units, free_values}, Kept.Sides.{states_of}, Laws.Numbering.{first_there}}
 use Rattle.smp_twostage.specs.Selections.{tree_of, first_number, first_stage, free_points, stages_of}
-use Rattle.smp_twostage.specs.Kept.Sides.{states_of}
-use Rattle.smp_twostage.specs.Laws.Numbering.{first_there}
-use Rattle.smp_twostage.proofs.Columns.{is_planned}
-use Rattle.smp_twostage.proofs.StartsBy.{first_so}
+use Rattle.smp_twostage.proofs.{Columns.{is_planned}, StartsBy.{first_so}}
 
 -- ---- the tree of the first stage, and where it starts
 

@@ -1,39 +1,22 @@
 -- A path of the one stage of all strata is one of the method's own paths, and which units are selected at its leaf.
 use Rattle.std.proofs.Common.{◌≡◌, ℕ, ◌+◌, ◌<◌, Bool, true, false, List, [], ◌∷◌, length, get_or, Option, Some, None, All, arith, refl, sym, ap, ap₂, subst, ◌∙◌}
-use Rattle.std.specs.Prelude.{cond}
-use Rattle.std.specs.List.{count_by, range_with_len, slice_get}
-use Rattle.std.proofs.lemmas.List.Elements.{All-from_get_or, All-head, All-tail}
+use Rattle.std.specs.{Prelude.{cond}, List.{count_by, range_with_len, slice_get}}
+use Rattle.std.proofs.{lemmas.List.Elements.{All-from_get_or, All-head, All-tail}, lemmas.List.Sums.{sum_by-cons}}
 use Rattle.std.proofs.lemmas.List.FromFn.{length-range_with_len, get_or-range_with_len}
-use Rattle.std.proofs.lemmas.List.Sums.{sum_by-cons}
-use Rattle.smp_prob.specs.declared.inclusions.Inclusion.{Inclusion}
-use Rattle.smp_prob.specs.declared.inclusions.Inclusion.TheVariants.{Certain, Free, Never}
+use Rattle.smp_prob.specs.{declared.inclusions.Inclusion.{Inclusion}, declared.inclusions.Inclusion.TheVariants.{Certain, Free, Never}}
 use Rattle.smp_prob.specs.Inclusions.{count_taken, inclusion, is_taken}
-use Rattle.smp_split.specs.Embeds.{embedded}
-use Rattle.smp_split.specs.Lenses.{as_unit}
-use Rattle.smp_split.specs.Paths.{Entry}
-use Rattle.smp_split.specs.Trees.{Tree}
+use Rattle.smp_split.specs.{Embeds.{embedded}, Lenses.{as_unit}, Paths.{Entry}, Trees.{Tree}, Laws.Lenses.{came_whole}, Rows.{rows_tree}}
 use Rattle.smp_split.proofs.Embeds.{embedded_lens, embedded_closes}
-use Rattle.smp_split.specs.Laws.Lenses.{came_whole}
-use Rattle.smp_split.specs.Rows.{rows_tree}
-use Rattle.smp_split.specs.Laws.Rows.{row_view, rows_lens, rows_close}
-use Rattle.smp_methods.specs.declared.any.AnyState.{AnyState}
+use Rattle.smp_split.specs.{Laws.Rows.{row_view, rows_lens, rows_close}, StagePaths.{GoesByStages, IsStagePath}, Stages.{read}}
+use Rattle.smp_methods.specs.{declared.any.AnyState.{AnyState}, Designs.{first_state}}
 use Rattle.smp_methods.specs.declared.any.AnyState.TheVariants as states
-use Rattle.smp_methods.specs.Designs.{first_state}
-use Rattle.smp_split.specs.StagePaths.{GoesByStages, IsStagePath}
-use Rattle.smp_split.specs.Stages.{read}
 use Rattle.smp_split.specs.Laws.Reads.{some_within}
-use Rattle.smp_strata.specs.Plans.{Plan}
-use Rattle.smp_strata.specs.declared.strata.Stratum.{Stratum}
+use Rattle.smp_strata.specs.{Plans.{Plan}, declared.strata.Stratum.{Stratum}}
 use Rattle.smp_moves.specs.Cubes.{values_in}
-use Rattle.smp_stratcube.specs.States.{Balancing, started}
-use Rattle.smp_stratcube.specs.Cube.{strat_tree}
-use Rattle.smp_stratcube.specs.Values.{is_one}
-use Rattle.smp_twostage.specs.Cubes.{IsDrawnTogether, units_together}
-use Rattle.smp_twostage.specs.Plans.{CanBeDrawn}
+use Rattle.smp_stratcube.specs.{States.{Balancing, started}, Cube.{strat_tree}, Values.{is_one}}
+use Rattle.smp_twostage.specs.{Cubes.{IsDrawnTogether, units_together}, Plans.{CanBeDrawn}}
 use Rattle.smp_twostage.specs.Selections.{request_over, stage_of_strata, tree_of, unit_count, units_before}
-use Rattle.smp_twostage.proofs.Columns.{are_over}
-use Rattle.smp_twostage.proofs.OverAll.{free_before, stands_behind, stands_over}
-use Rattle.smp_twostage.proofs.StartsBy.{first_so}
+use Rattle.smp_twostage.proofs.{Columns.{are_over}, OverAll.{free_before, stands_behind, stands_over}, StartsBy.{first_so}}
 
 abbrev strata_out : AnyState → Option Balancing
 strata_out = elim [ states.StratifiedCube state ↦ Some state | other ↦ None ]

@@ -1,47 +1,26 @@
 -- By any plan that can be drawn each stage starts in its first state, and the state before the first step is one of the selection.
 use Rattle.std.proofs.Common.{◌≡◌, ℕ, zero, suc, ◌<◌, true, ℤ, List, [], ◌∷◌, length, map, get_or, take, drop, Option, Some, None, All, refl, sym, ap, subst, ◌∙◌, inl, inr}
-use Rattle.std.specs.Prelude.{IfSome, option_map}
-use Rattle.std.specs.List.{slice_get}
-use Rattle.std.proofs.lemmas.Bool.{cases_Bool}
-use Rattle.std.proofs.lemmas.List.{length-map}
+use Rattle.std.specs.{Prelude.{IfSome, option_map}, List.{slice_get}}
+use Rattle.std.proofs.{lemmas.Bool.{cases_Bool}, lemmas.List.{length-map}}
 use Rattle.std.proofs.lemmas.List.Elements.{All-append, All-cons, All-drop, All-get_or, All-map, All-nil, All-take, All-weaker}
 use Rattle.std.proofs.lemmas.Option.{get_or_from_slice_get, same_Some, slice_get-get_or, slice_get-map, slice_get_within}
-use Rattle.smp_prob.specs.declared.requests.Request.{Request}
-use Rattle.smp_prob.specs.Inclusions.{IsRising}
+use Rattle.smp_prob.specs.{declared.requests.Request.{Request}, Inclusions.{IsRising}}
 use Rattle.smp_values.proofs.Requests.{adds_to_draws}
-use Rattle.smp_design.specs.declared.method.Method.{Method}
-use Rattle.smp_design.specs.Procedures.{without_values}
-use Rattle.smp_design.specs.Words.{draws_together}
+use Rattle.smp_design.specs.{declared.method.Method.{Method}, Procedures.{without_values}, Words.{draws_together}}
 use Rattle.smp_design.proofs.Rows.{bare}
 use Rattle.smp_design.specs.declared.procedure.Procedure.{Procedure}
-use Rattle.smp_methods.specs.Designs.{design_of, design_of_strata, first_state}
-use Rattle.smp_methods.specs.Methods.{method_of}
-use Rattle.smp_methods.specs.Starts.{AreStarted, IsStarted}
-use Rattle.smp_methods.proofs.Columns.{takes_none}
-use Rattle.smp_methods.proofs.Firsts.{is_first}
-use Rattle.smp_methods.proofs.Starts.{are_started}
-use Rattle.smp_methods.proofs.Wholes.{needs_of, needs_whole}
-use Rattle.smp_split.specs.declared.places.Stage.{Stage}
-use Rattle.smp_split.specs.Stages.{EachBelongs}
-use Rattle.smp_strata.specs.Bounds.{IsFirst, DrawsWholeOver}
-use Rattle.smp_strata.specs.Plans.{Plan}
-use Rattle.smp_strata.specs.declared.strata.FirstUnit.{FirstUnit}
+use Rattle.smp_methods.specs.{Designs.{design_of, design_of_strata, first_state}, Methods.{method_of}, Starts.{AreStarted, IsStarted}}
+use Rattle.smp_methods.proofs.{Columns.{takes_none}, Firsts.{is_first}, Starts.{are_started}, Wholes.{needs_of, needs_whole}}
+use Rattle.smp_split.specs.{declared.places.Stage.{Stage}, Stages.{EachBelongs}}
+use Rattle.smp_strata.specs.{Bounds.{IsFirst, DrawsWholeOver}, Plans.{Plan}, declared.strata.FirstUnit.{FirstUnit}}
 use Rattle.smp_strata.specs.declared.strata.Stratum.{Stratum}
-use Rattle.smp_twostage.specs.Strata.{free_values}
-use Rattle.smp_stratcube.specs.Layers.{IsLayer, no_layer}
-use Rattle.smp_stratcube.specs.Kept.Layers.{layer_of}
-use Rattle.smp_stratcube.specs.Units.{IsUnits, units_of}
-use Rattle.smp_stratcube.proofs.BySteps.{counts_so, is_balanced}
-use Rattle.smp_stratcube.proofs.Layered.{units_are}
-use Rattle.smp_stratcube.proofs.Starting.{are_requested, strat_means}
+use Rattle.smp_twostage.specs.{Strata.{free_values}, Kept.Stages.{EachStarts, IsPlanned, StageStarts}, Plans.{CanBeDrawn, TakesRows}}
+use Rattle.smp_stratcube.specs.{Layers.{IsLayer, no_layer}, Kept.Layers.{layer_of}, Units.{IsUnits, units_of}}
+use Rattle.smp_stratcube.proofs.{BySteps.{counts_so, is_balanced}, Layered.{units_are}, Starting.{are_requested, strat_means}}
 use Rattle.smp_stratcube.proofs.Stored.{layer_is}
-use Rattle.smp_twostage.specs.Kept.Stages.{EachStarts, IsPlanned, StageStarts}
-use Rattle.smp_twostage.specs.Plans.{CanBeDrawn, TakesRows}
 use Rattle.smp_twostage.specs.Selections.{BelongsToCovered, BelongsToWhole, Selecting, balancing, belongs_to, covered_stages, covered_start, covered_states, first_stage, free_points, layers_of, parts_by, second_stage, stage_by, stage_of_strata, stage_within, stages_below, stages_in, stages_of, stages_within, start_of, tree_of}
 use Rattle.smp_twostage.specs.Kept.Sides.{states_of}
-use Rattle.smp_twostage.proofs.Columns.{is_planned, takes_free}
-use Rattle.smp_twostage.proofs.Layers.{are_layers, numbers, one_each}
-use Rattle.smp_twostage.proofs.Starts.{each_belongs}
+use Rattle.smp_twostage.proofs.{Columns.{is_planned, takes_free}, Layers.{are_layers, numbers, one_each}, Starts.{each_belongs}}
 use Rattle.smp_twostage.proofs.Together.{stage_first}
 
 -- a stage starts in its first state

@@ -1,12 +1,10 @@
 -- The stratum of a stage, found among the numbers of the first stages.
 use Rattle.std.proofs.Common.{◌≡◌, ℕ, suc, ◌-◌, ◌<◌, ◌≤◌, true, false, leb, leb-true, nat_lt, List, length, get_or, arith, inl, inr}
 use Rattle.std.specs.List.Sorted.{IsNonDecreasingBy, IsPartitionedBy, IsPartitionPoint}
-use Rattle.std.proofs.lemmas.Bool.{cases_lt, leb-false, lt-ltb, le-ltb}
-use Rattle.std.proofs.lemmas.List.Sorted.{IsPartitionedBy-leb}
+use Rattle.std.proofs.{lemmas.Bool.{cases_lt, leb-false, lt-ltb, le-ltb}, lemmas.List.Sorted.{IsPartitionedBy-leb}}
 use Rattle.smp_split.specs.Laws.Firsts.{first_is, first_unique}
 use Rattle.smp_split.proofs.StageSections.{before_rises, section}
-use Rattle.smp_twostage.specs.Kept.Stages.{first_numbers}
-use Rattle.smp_twostage.specs.Laws.Covered.{strata_are_sections}
+use Rattle.smp_twostage.specs.{Kept.Stages.{first_numbers}, Laws.Covered.{strata_are_sections}}
 use Rattle.smp_twostage.specs.Selections.{Coverage, covered_stages, section_count, stages_before}
 use Rattle.smp_twostage.proofs.Inside.{first_at, length_firsts}
 

@@ -1,16 +1,12 @@
 -- A sum over the units that are drawn together is one of sums over the units of each stratum, added up as the totals of all strata are.
 use Rattle.std.proofs.Common.{◌≡◌, ◌≢◌, ℕ, zero, suc, ◌+◌, ◌-◌, ◌<◌, Bool, true, false, List, [], ◌∷◌, All, length, get_or, arith, sym, subst, inl, inr}
 use Rattle.std.specs.Prelude.{nat_lt, if◌then◌else◌}
-use Rattle.std.proofs.lemmas.Bool.{cases_Bool}
-use Rattle.std.proofs.lemmas.List.Elements.{All-head, All-tail}
+use Rattle.std.proofs.{lemmas.Bool.{cases_Bool}, lemmas.List.Elements.{All-head, All-tail}}
 use Rattle.smp_frac.specs.Fractions.{Fraction, Same, plus, sum_below, whole}
 use Rattle.smp_frac.proofs.Arithmetic.{plus-zero, plus_same, plus_swap, same_refl, same_sym, same_trans, sum_same, zero-plus, zero-plus-zero}
-use Rattle.smp_stratcube.specs.declared.units.Member.{Member}
-use Rattle.smp_stratcube.specs.Layers.{Layer}
-use Rattle.smp_stratcube.specs.Kept.Layers.{layer_of}
+use Rattle.smp_stratcube.specs.{declared.units.Member.{Member}, Layers.{Layer}, Kept.Layers.{layer_of}}
 use Rattle.smp_stratcube.specs.Units.{member_of, members_from, nobody}
-use Rattle.smp_twostage.specs.Strata.{StratumUnits, free_values}
-use Rattle.smp_twostage.specs.Totals.{layers_of, over_frame, size_of, variable_of}
+use Rattle.smp_twostage.specs.{Strata.{StratumUnits, free_values}, Totals.{layers_of, over_frame, size_of, variable_of}}
 use Rattle.smp_twostage.proofs.LayerRuns.{halves, later_unit, own_unit}
 
 abbrev pub layer_in : StratumUnits → Layer

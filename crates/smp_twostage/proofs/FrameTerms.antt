@@ -7,21 +7,18 @@ use Rattle.std.proofs.lemmas.List.{get_or-append_right, get_or-replicate, get_or
 use Rattle.smp_frac.specs.Fractions.{Fraction, Same, integer, inverse, sum_below, times, whole}
 use Rattle.smp_frac.proofs.Arithmetic.{inverse_same, one-times, same_refl, same_sym, same_trans, sum-zero, sum_same, times_same, zero-times}
 use Rattle.smp_kernel.specs.Vectors.{entry}
-use Rattle.smp_prob.specs.Inclusions.{free_fraction}
-use Rattle.smp_prob.specs.Shares.{shares_of}
+use Rattle.smp_prob.specs.{Inclusions.{free_fraction}, Shares.{shares_of}}
 use Rattle.smp_moves.specs.Moves.{fraction_of}
 use Rattle.smp_values.specs.Values.{value_at}
 use Rattle.smp_flight.specs.States as flights
 use Rattle.smp_flight.specs.Totals as free
 use Rattle.smp_flight.proofs.Making.{column_at}
-use Rattle.smp_stratcube.specs.declared.units.Member.{Member}
-use Rattle.smp_stratcube.specs.Units.{column_of, member_of, members_from, nobody}
+use Rattle.smp_stratcube.specs.{declared.units.Member.{Member}, Units.{column_of, member_of, members_from, nobody}}
 use Rattle.smp_stratcube.specs.Laws.Taken.{lowest_same}
 use Rattle.smp_stratcube.proofs.Stored.{in_rest, length-column}
 use Rattle.smp_twostage.specs.Strata.{StratumUnits, AreStratumUnits, column_count, free_units, free_values}
 use Rattle.smp_twostage.specs.Totals.{layers_of, over_frame, variable_of}
-use Rattle.smp_twostage.proofs.Balances.{same_length}
-use Rattle.smp_twostage.proofs.BalanceTerms.{free_asked, some_asked}
+use Rattle.smp_twostage.proofs.{Balances.{same_length}, BalanceTerms.{free_asked, some_asked}}
 use Rattle.smp_twostage.proofs.FrameSums.{ArePaired, layer_in, members_sum, size_sums, sums, variable_sums}
 
 -- in so many strata

@@ -1,17 +1,12 @@
 -- All strata that are drawn together are a frame that can be, so what they balance is balanced.
-use Rattle.std.proofs.Common.{◌≡◌, ℕ, ◌≤◌, true, List, [], ◌∷◌, All, length, map, get_or, arith, sym, ◌∙◌}
-use Rattle.std.proofs.lemmas.List.{length-map}
-use Rattle.std.proofs.lemmas.List.Elements.{All-head, All-map}
-use Rattle.std.proofs.lemmas.Option.{slice_get-get_or}
-use Rattle.smp_twostage.specs.Totals.{IsBalancedFrame, IsFrame, columns_in}
-use Rattle.smp_twostage.specs.Strata.{AreStratumUnits, StratumUnits, column_count}
-use Rattle.smp_twostage.proofs.BalancedTogether.{each_frame_is_balanced}
+use Rattle.std.proofs.{Common.{◌≡◌, ℕ, ◌≤◌, true, List, [], ◌∷◌, All, length, map, get_or, arith, sym, ◌∙◌}, lemmas.List.{length-map}}
+use Rattle.std.proofs.{lemmas.List.Elements.{All-head, All-map}, lemmas.Option.{slice_get-get_or}}
+use Rattle.smp_twostage.specs.{Totals.{IsBalancedFrame, IsFrame, columns_in}, Strata.{AreStratumUnits, StratumUnits, column_count}}
+use Rattle.smp_twostage.proofs.{BalancedTogether.{each_frame_is_balanced}, Told.{balanced_count, is_stratum}}
 use Rattle.smp_design.specs.Words.{row, draws_together}
 use Rattle.smp_design.proofs.Rows.{balance_columns, together_balances}
 use Rattle.smp_strata.specs.Plans.{Plan}
-use Rattle.smp_twostage.specs.Cubes.{balancing, frame_of}
-use Rattle.smp_twostage.specs.Plans.{CanBeDrawn}
-use Rattle.smp_twostage.proofs.Told.{balanced_count, is_stratum}
+use Rattle.smp_twostage.specs.{Cubes.{balancing, frame_of}, Plans.{CanBeDrawn}}
 
 first_columns : (columns : ℕ) (frame : List StratumUnits) → 1 ≤ length frame → All (λ s. column_count s ≡ columns) frame → columns_in frame ≡ columns
 first_columns columns [] some all = absurd (omega (arith, some))

@@ -1,27 +1,16 @@
 -- What a selection is made of is what its plan says.
 use Rattle.std.proofs.Common.{◌≡◌, ℕ, suc, ◌+◌, ◌<◌, ◌≤◌, Bool, true, false, List, length, map, get_or, Option, Some, None, ap, arith, refl, subst, sym, ◌∙◌}
-use Rattle.std.specs.Prelude.{◌||◌}
-use Rattle.std.specs.List.{range_with_len, slice_get}
-use Rattle.std.proofs.lemmas.Bool.{and_parts, eqb-true, ltb-true}
-use Rattle.std.proofs.lemmas.Option.{slice_get_within, slice_get_read}
+use Rattle.std.specs.{Prelude.{◌||◌}, List.{range_with_len, slice_get}}
+use Rattle.std.proofs.{lemmas.Bool.{and_parts, eqb-true, ltb-true}, lemmas.Option.{slice_get_within, slice_get_read}}
 use Rattle.std.proofs.lemmas.List.FromFn.{get_or-map-range_with_len, length-map-range_with_len}
-use Rattle.smp_methods.specs.declared.any.AnyState.{AnyState}
-use Rattle.smp_methods.specs.Designs.{left_at}
-use Rattle.smp_split.specs.declared.places.Place.{Place}
-use Rattle.smp_split.specs.declared.places.Seat.{Seat}
-use Rattle.smp_split.specs.declared.places.Stage.{Stage}
-use Rattle.smp_split.specs.Stages.{Progress, IsUnderWay, selected_in, staged_tree, units_of}
-use Rattle.smp_split.specs.Laws.Reads.{some_within}
-use Rattle.smp_strata.specs.declared.strata.Stratum.{Stratum}
-use Rattle.smp_strata.specs.Plans.{Plan}
-use Rattle.smp_twostage.specs.Plans.{CanBeDrawn}
-use Rattle.smp_twostage.specs.Starts.{left_by}
-use Rattle.smp_twostage.specs.Laws.Covered.{alone_there, before_within}
-use Rattle.smp_twostage.specs.Laws.Numbering.{first_there}
-use Rattle.smp_twostage.specs.Kept.Stages.{first_numbers}
+use Rattle.smp_methods.specs.{declared.any.AnyState.{AnyState}, Designs.{left_at}}
+use Rattle.smp_split.specs.{declared.places.Place.{Place}, declared.places.Seat.{Seat}, declared.places.Stage.{Stage}}
+use Rattle.smp_split.specs.{Stages.{Progress, IsUnderWay, selected_in, staged_tree, units_of}, Laws.Reads.{some_within}}
+use Rattle.smp_strata.specs.{declared.strata.Stratum.{Stratum}, Plans.{Plan}}
+use Rattle.smp_twostage.specs.{Plans.{CanBeDrawn}, Starts.{left_by}, Laws.Covered.{alone_there, before_within}, Kept.Stages.{first_numbers}}
+use Rattle.smp_twostage.specs.{Laws.Numbering.{first_there}, Kept.Sides.{first_place_by, section_count_by, stages_before_by, stages_by}}
 use Rattle.smp_twostage.specs.Selections.{Coverage, Selecting, belongs_to, covered_number, covered_parts, covered_seats, covered_stages, covered_tree, covers, first_number, first_place}
 use Rattle.smp_twostage.specs.Selections.{count_by, first_stage, is_only, is_together, number_by, parts_by, section_count, stage_of_strata, stages_before, tree_of, units_before}
-use Rattle.smp_twostage.specs.Kept.Sides.{first_place_by, section_count_by, stages_before_by, stages_by}
 use Rattle.smp_twostage.proofs.Columns.{is_planned}
 
 module _ (c own : Coverage) (view : own ≡ c) (stages : List (Stage Selecting)) (stages_are : stages ≡ covered_stages own) where

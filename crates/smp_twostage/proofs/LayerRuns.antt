@@ -1,13 +1,10 @@
 -- A sum over the units of one stratum, among those of all that are drawn together: they stand one after another.
 use Rattle.std.proofs.Common.{◌≡◌, ◌≢◌, ℕ, zero, suc, ◌+◌, ◌-◌, ◌<◌, ◌≤◌, Bool, List, [], ◌∷◌, length, get_or, arith, sym, ap, subst, ◌∙◌, le_of_suc-le-suc, length-append}
 use Rattle.std.specs.Prelude.{cond, nat_eq}
-use Rattle.std.proofs.lemmas.Bool.{eq-eqb, ne_eqb}
-use Rattle.std.proofs.lemmas.List.{get_or-append_right, get_or_append_left}
+use Rattle.std.proofs.{lemmas.Bool.{eq-eqb, ne_eqb}, lemmas.List.{get_or-append_right, get_or_append_left}}
 use Rattle.smp_frac.specs.Fractions.{Fraction, Same, plus, sum_below, times, whole}
 use Rattle.smp_frac.proofs.Arithmetic.{one-times, plus-zero, plus_assoc, plus_same, same_refl, same_sym, same_trans, sum-zero, sum_same, zero-plus, zero-times}
-use Rattle.smp_stratcube.specs.declared.units.Member.{Member}
-use Rattle.smp_stratcube.specs.Layers.{Layer, no_layer}
-use Rattle.smp_stratcube.specs.Requests.{offset}
+use Rattle.smp_stratcube.specs.{declared.units.Member.{Member}, Layers.{Layer, no_layer}, Requests.{offset}}
 use Rattle.smp_stratcube.specs.Units.{member_of, members_from, nobody}
 use Rattle.smp_stratcube.proofs.Layered.{length-own, own, own_at, unit_of}
 

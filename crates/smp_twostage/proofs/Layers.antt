@@ -1,28 +1,17 @@
 -- All strata that are drawn together, as the code goes over them: how many units they have, and what is balanced of each.
 use Rattle.std.proofs.Common.{◌≡◌, ℕ, zero, suc, ◌+◌, ◌-◌, ◌*◌, ◌^◌, ◌<◌, ◌≤◌, true, false, ℤ, List, [], ◌∷◌, ◌++◌, length, map, drop, get_or, Some, All, arith, sym, ap, ap₂, subst, ◌∙◌, inl, inr, append_assoc}
-use Rattle.std.specs.Prelude.{nat_eq}
-use Rattle.std.specs.List.{slice_get}
-use Rattle.std.proofs.lemmas.Bool.{cases_Bool, eqb-true}
-use Rattle.std.proofs.lemmas.List.{append-nil, drop_all, length-map}
+use Rattle.std.specs.{Prelude.{nat_eq}, List.{slice_get}}
+use Rattle.std.proofs.{lemmas.Bool.{cases_Bool, eqb-true}, lemmas.List.{append-nil, drop_all, length-map}, lemmas.Option.{slice_get-get_or}}
 use Rattle.std.proofs.lemmas.List.Elements.{All-get_or, All-head, All-map, All-tail, All-weaker}
-use Rattle.std.proofs.lemmas.Option.{slice_get-get_or}
 use Rattle.smp_design.specs.Words.{row, draws_together}
 use Rattle.smp_design.proofs.Rows.{balance_columns, together_balances}
-use Rattle.smp_methods.proofs.Columns.{are_values}
-use Rattle.smp_methods.proofs.OneStratum.{are_numbers}
-use Rattle.smp_twostage.specs.Strata.{free_values, values_of}
-use Rattle.smp_stratcube.specs.Layers.{AreLayers, AreNumbers, Layer, no_layer, variables}
-use Rattle.smp_stratcube.specs.Kept.Layers.{width, layer_of}
+use Rattle.smp_methods.proofs.{Columns.{are_values}, OneStratum.{are_numbers}}
+use Rattle.smp_twostage.specs.{Strata.{free_values, values_of}, Kept.Stages.{IsPlanned}, Plans.{CanBeDrawn, IsTogether}}
+use Rattle.smp_stratcube.specs.{Layers.{AreLayers, AreNumbers, Layer, no_layer, variables}, Kept.Layers.{width, layer_of}}
 use Rattle.smp_prob.specs.declared.requests.Request.{Request}
-use Rattle.smp_strata.specs.Bounds.{IsStratum}
-use Rattle.smp_strata.specs.Plans.{Plan}
-use Rattle.smp_strata.specs.declared.strata.FirstUnit.{FirstUnit}
-use Rattle.smp_strata.specs.declared.strata.Stratum.{Stratum}
-use Rattle.smp_twostage.specs.Kept.Stages.{IsPlanned}
-use Rattle.smp_twostage.specs.Plans.{CanBeDrawn, IsTogether}
+use Rattle.smp_strata.specs.{Bounds.{IsStratum}, Plans.{Plan}, declared.strata.FirstUnit.{FirstUnit}, declared.strata.Stratum.{Stratum}}
 use Rattle.smp_twostage.specs.Selections.{balancing, layers_of, numbers_from, units_before}
-use Rattle.smp_twostage.proofs.Columns.{free_counted, free_near, is_planned, stratum_at}
-use Rattle.smp_twostage.proofs.OverAll.{numbers_next, one_before}
+use Rattle.smp_twostage.proofs.{Columns.{free_counted, free_near, is_planned, stratum_at}, OverAll.{numbers_next, one_before}}
 
 -- ---- how many units there are
 

@@ -1,8 +1,7 @@
 -- Numbers below a bound that pass a test, and the text of their lines.
 use Rattle.std.proofs.Common.{◌≡◌, ℕ, zero, suc, ◌+◌, ◌-◌, ◌<◌, ◌≤◌, Bool, true, false, append_assoc, List, ◌∷◌, ◌++◌, length, get_or, arith, sym, ap, ◌∙◌, inl, inr}
 use Rattle.std.specs.List.{filter, flat_map, range_with_len}
-use Rattle.std.proofs.lemmas.Bool.{cases_Bool}
-use Rattle.std.proofs.lemmas.List.{append-nil}
+use Rattle.std.proofs.{lemmas.Bool.{cases_Bool}, lemmas.List.{append-nil}}
 use Rattle.smp_split.proofs.Filters.{filter_here, filter_next}
 
 -- ---- a text of the numbers that pass a test

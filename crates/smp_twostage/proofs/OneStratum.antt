@@ -1,12 +1,10 @@
 -- A row over one stratum alone is the row of the stratum.
-use Rattle.std.proofs.Common.{◌≡◌, ℕ, zero, suc, ◌+◌, ◌-◌, Bool, false, [], ◌∷◌, arith, ap, sym, subst}
+use Rattle.std.proofs.{Common.{◌≡◌, ℕ, zero, suc, ◌+◌, ◌-◌, Bool, false, [], ◌∷◌, arith, ap, sym, subst}, lemmas.Bool.{le-ltb}}
 use Rattle.std.specs.Prelude.{if◌then◌else◌, nat_lt}
-use Rattle.std.proofs.lemmas.Bool.{le-ltb}
 use Rattle.std.proofs.Math.Path.{fun_ext}
 use Rattle.smp_frac.specs.Fractions.{Fraction, Same}
 use Rattle.smp_frac.proofs.Arithmetic.{plus-zero, same_refl}
-use Rattle.smp_twostage.specs.Strata.{StratumUnits}
-use Rattle.smp_twostage.specs.Totals.{over_frame, size_of, variable_of}
+use Rattle.smp_twostage.specs.{Strata.{StratumUnits}, Totals.{over_frame, size_of, variable_of}}
 
 pub alone : (part : ℕ → ℕ → StratumUnits → Fraction) (s : StratumUnits) (row : ℕ) → Same (over_frame part (s ∷ []) row) (part 0 row s)
 alone part s zero = same_refl (part 0 0 s)

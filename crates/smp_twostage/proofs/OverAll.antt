@@ -1,18 +1,13 @@
 -- Where the units of all strata stand: a unit stands as in the request of its own stratum, and its free units behind those of the strata
 -- before it.
 use Rattle.std.proofs.Common.{◌≡◌, ℕ, zero, suc, ◌+◌, ◌-◌, ◌<◌, ◌≤◌, Bool, false, List, [], ◌∷◌, ◌++◌, length, map, Option, Some, None, All, drop, get_or, arith, refl, sym, ap, ap₂, subst, true≢false, ◌∙◌, inl, inr, length-append}
-use Rattle.std.specs.Prelude.{if◌then◌else◌, cond, is_some, nat_eq, nat_lt, option_map, position}
-use Rattle.std.specs.List.{position_or_len, slice_get}
-use Rattle.std.proofs.lemmas.Bool.{cases_Bool, cases_lt, eq-eqb, eqb-true, le-ltb, lt-ltb}
+use Rattle.std.specs.{Prelude.{if◌then◌else◌, cond, is_some, nat_eq, nat_lt, option_map, position}, List.{position_or_len, slice_get}}
+use Rattle.std.proofs.{lemmas.Bool.{cases_Bool, cases_lt, eq-eqb, eqb-true, le-ltb, lt-ltb}, lemmas.Option.{same_Some}}
 use Rattle.std.proofs.lemmas.List.{get_or-append_right, get_or-map, get_or_append_left, length-map}
 use Rattle.std.proofs.lemmas.List.Elements.{All-append, All-get_or, All-head, All-map, All-nil, All-tail, All-weaker}
-use Rattle.std.proofs.lemmas.Option.{same_Some}
-use Rattle.smp_prob.specs.declared.inclusions.Inclusion.{Inclusion}
-use Rattle.smp_prob.specs.declared.inclusions.Inclusion.TheVariants.{Certain, Free, Never}
-use Rattle.smp_prob.specs.Inclusions.{IsRising, Rises, free_or_never, inclusion}
-use Rattle.smp_prob.specs.declared.requests.Request.{Request}
-use Rattle.smp_strata.specs.Bounds.{IsOver}
-use Rattle.smp_strata.specs.declared.strata.Stratum.{Stratum}
+use Rattle.smp_prob.specs.{declared.inclusions.Inclusion.{Inclusion}, declared.inclusions.Inclusion.TheVariants.{Certain, Free, Never}}
+use Rattle.smp_prob.specs.{Inclusions.{IsRising, Rises, free_or_never, inclusion}, declared.requests.Request.{Request}}
+use Rattle.smp_strata.specs.{Bounds.{IsOver}, declared.strata.Stratum.{Stratum}}
 use Rattle.smp_twostage.specs.Selections.{numbers_from, request_over, units_before}
 
 -- ---- places in a list

@@ -1,39 +1,23 @@
 -- Only rows that can be selected are selected.
 use Rattle.std.proofs.Common.{◌≡◌, ℕ, zero, suc, ◌+◌, ◌*◌, ◌<◌, ◌≤◌, mul-pos, Bool, true, false, true≢false, ℤ, pos, negsuc, List, [], ◌∷◌, length, Option, Some, None, arith, refl, sym, ap, subst, ◌∙◌, inl, inr}
-use Rattle.std.specs.Prelude.{is_some, slice_index, option_and_then}
-use Rattle.std.specs.List.{slice_get}
-use Rattle.std.proofs.lemmas.Bool.{and_parts, cases_Bool}
-use Rattle.std.proofs.lemmas.Option.{slice_get_within}
+use Rattle.std.specs.{Prelude.{is_some, slice_index, option_and_then}, List.{slice_get}}
+use Rattle.std.proofs.{lemmas.Bool.{and_parts, cases_Bool}, lemmas.Option.{slice_get_within}}
 use Rattle.smp_frac.specs.Fractions.{Fraction, times}
-use Rattle.smp_prob.specs.declared.requests.Request.{Request}
-use Rattle.smp_prob.specs.declared.inclusions.Inclusion.{Inclusion}
+use Rattle.smp_prob.specs.{declared.requests.Request.{Request}, declared.inclusions.Inclusion.{Inclusion}, Requests.{IsRequest}}
 use Rattle.smp_prob.specs.declared.inclusions.Inclusion.TheVariants.{Certain, Free, Never}
-use Rattle.smp_prob.specs.Requests.{IsRequest}
 use Rattle.smp_prob.specs.Inclusions.{asked_fraction, fraction_at, is_taken, inclusion}
-use Rattle.smp_design.specs.declared.method.Method.{Method}
-use Rattle.smp_design.specs.Words.{draws_together}
-use Rattle.smp_split.specs.Laws.Rows.{free_within}
-use Rattle.smp_methods.specs.declared.any.AnyState.{AnyState}
-use Rattle.smp_methods.specs.Methods.{method_of}
-use Rattle.smp_split.specs.declared.places.Place.{Place}
-use Rattle.smp_split.specs.declared.places.Stage.{Stage}
+use Rattle.smp_design.specs.{declared.method.Method.{Method}, Words.{draws_together}}
+use Rattle.smp_split.specs.{Laws.Rows.{free_within}, declared.places.Place.{Place}, declared.places.Stage.{Stage}}
+use Rattle.smp_methods.specs.{declared.any.AnyState.{AnyState}, Methods.{method_of}}
 use Rattle.smp_split.specs.Stages.{Progress, read, seat_selected, staged_tree, unit_selected}
-use Rattle.smp_strata.specs.Bounds.{DrawsWholeOver}
-use Rattle.smp_strata.specs.Plans.{Plan}
+use Rattle.smp_strata.specs.{Bounds.{DrawsWholeOver}, Plans.{Plan}, declared.strata.Seat.{Seat}}
 use Rattle.smp_strata.specs.Seats.{first_at, first_fraction, place_fraction, stage_fraction, unit_fraction}
-use Rattle.smp_strata.specs.declared.strata.Seat.{Seat}
-use Rattle.smp_twostage.specs.Plans.{CanBeDrawn}
+use Rattle.smp_twostage.specs.{Plans.{CanBeDrawn}, Selections.{second_stage, stage_of_strata, stages_of, units_before}}
 use Rattle.smp_twostage.specs.Selections.{Coverage, Selecting, tree_of, covered_tree, first_number, first_stage, is_of_stratum, is_together, parts_by, place_of, seat_alone, seat_by, seat_together}
-use Rattle.smp_twostage.specs.Selections.{second_stage, stage_of_strata, stages_of, units_before}
-use Rattle.smp_twostage.specs.Kept.Sides.{seats_in, stages_by}
-use Rattle.smp_twostage.specs.Starts.{is_positive, row_fraction}
-use Rattle.smp_twostage.specs.Laws.Covered.{its_place, made_at}
-use Rattle.smp_twostage.specs.Laws.Numbering.{first_there, second_there}
-use Rattle.smp_twostage.specs.Laws.Places.{StandsIn}
+use Rattle.smp_twostage.specs.{Kept.Sides.{seats_in, stages_by}, Starts.{is_positive, row_fraction}, Laws.Covered.{its_place, made_at}}
+use Rattle.smp_twostage.specs.{Laws.Numbering.{first_there, second_there}, Laws.Places.{StandsIn}}
 use Rattle.smp_twostage.specs.Laws.Staged.{first_is, none_in, place_stands, seat_at, seconds_in}
-use Rattle.smp_twostage.proofs.Columns.{are_over, is_planned}
-use Rattle.smp_twostage.proofs.DrawnTogether.{taken_behind}
-use Rattle.smp_twostage.proofs.OverAll.{free_before, stands_over}
+use Rattle.smp_twostage.proofs.{Columns.{are_over, is_planned}, DrawnTogether.{taken_behind}, OverAll.{free_before, stands_over}}
 
 positive_number : (n : ℕ) → 1 ≤ n → is_positive (pos n) ≡ true
 positive_number zero some = absurd (omega (arith, some))

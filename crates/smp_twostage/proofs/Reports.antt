@@ -1,26 +1,16 @@
 -- The lines of the report on a stratum tell the totals of the statement.
 use Rattle.std.proofs.Common.{◌≡◌, ℕ, suc, ◌+◌, ◌<◌, Bool, cond, ℤ, pos, List, [], ◌∷◌, map, length, arith, refl, sym, ap, ◌∙◌, subst}
-use Rattle.std.specs.Prelude.{nat_eq}
-use Rattle.std.specs.List.{range_with_len}
-use Rattle.std.proofs.lemmas.List.{get_or-map, length-map}
-use Rattle.std.proofs.lemmas.List.FromFn.{fill_by_all}
-use Rattle.std.proofs.lemmas.Result.{IfOk-weaker}
-use Rattle.smp_frac.specs.Fractions.{Same, whole, integer}
+use Rattle.std.specs.{Prelude.{nat_eq}, List.{range_with_len}}
+use Rattle.std.proofs.{lemmas.List.{get_or-map, length-map}, lemmas.List.FromFn.{fill_by_all}, lemmas.Result.{IfOk-weaker}}
+use Rattle.smp_frac.specs.{Fractions.{Same, whole, integer}, declared.fractions.Frac.{Frac}, LowestTerms.{lowest_terms}}
 use Rattle.smp_frac.proofs.Arithmetic.{same_refl, same_sym, same_trans}
-use Rattle.smp_frac.specs.declared.fractions.Frac.{Frac}
-use Rattle.smp_frac.specs.LowestTerms.{lowest_terms}
 use Rattle.smp_kernel.specs.Vectors.{entry}
 use Rattle.smp_prob.specs.Inclusions.{asked_fraction, inclusion, is_taken}
-use Rattle.smp_weights.specs.Chosen.{chosen_units}
-use Rattle.smp_weights.specs.Values.{weighted_total}
+use Rattle.smp_weights.specs.{Chosen.{chosen_units}, Values.{weighted_total}}
 use Rattle.smp_weights.proofs.Values.{estimate_value}
-use Rattle.smp_twostage.specs.Strata.{StratumUnits, AreStratumUnits, value_in}
-use Rattle.smp_twostage.specs.Totals.{counted, estimate, known, known_value}
-use Rattle.smp_twostage.specs.DrawnLines.{Drawn, column_estimate, column_of, known_sum}
-use Rattle.smp_twostage.specs.Reports.{EachLineTells, TellsColumn, TellsOf}
-use Rattle.smp_twostage.proofs.Balances.{estimate_alone, known_alone}
-use Rattle.smp_twostage.proofs.BalanceSums.{chosen_sum, known_all}
-use Rattle.smp_twostage.proofs.ToldLines.{known_is, taken_is}
+use Rattle.smp_twostage.specs.{Strata.{StratumUnits, AreStratumUnits, value_in}, Totals.{counted, estimate, known, known_value}}
+use Rattle.smp_twostage.specs.{DrawnLines.{Drawn, column_estimate, column_of, known_sum}, Reports.{EachLineTells, TellsColumn, TellsOf}}
+use Rattle.smp_twostage.proofs.{Balances.{estimate_alone, known_alone}, BalanceSums.{chosen_sum, known_all}, ToldLines.{known_is, taken_is}}
 
 module _ (s : StratumUnits) (ok : AreStratumUnits s) (selected : ℕ → Bool) (column : ℕ) where
   abbrev count : ℕ

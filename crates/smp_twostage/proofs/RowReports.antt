@@ -1,29 +1,19 @@
 -- The report on strata that are drawn together tells the totals of the statement: each unit is a row, so the sums over the rows are those
 -- over the units of each stratum.
 use Rattle.std.proofs.Common.{◌≡◌, ℕ, suc, ◌+◌, ◌-◌, ◌<◌, Bool, false, cond, ℤ, pos, List, [], ◌∷◌, map, length, All, arith, refl, sym, ap, ◌∙◌, subst}
-use Rattle.std.specs.Prelude.{if◌then◌else◌, nat_eq, nat_lt}
-use Rattle.std.specs.List.{range_with_len}
-use Rattle.std.proofs.lemmas.Bool.{le-ltb}
-use Rattle.std.proofs.lemmas.Result.{IfOk-weaker}
-use Rattle.std.proofs.lemmas.Simd.{map-map}
-use Rattle.std.proofs.lemmas.List.Elements.{All-get_or}
-use Rattle.smp_frac.specs.Fractions.{Fraction, Same, whole, integer, sum_below}
+use Rattle.std.specs.{Prelude.{if◌then◌else◌, nat_eq, nat_lt}, List.{range_with_len}}
+use Rattle.std.proofs.{lemmas.Bool.{le-ltb}, lemmas.Result.{IfOk-weaker}, lemmas.Simd.{map-map}, lemmas.List.Elements.{All-get_or}}
+use Rattle.smp_frac.specs.{Fractions.{Fraction, Same, whole, integer, sum_below}, declared.fractions.Frac.{Frac}}
 use Rattle.smp_frac.proofs.Arithmetic.{plus_same, same_refl, same_trans, sum_same}
-use Rattle.smp_frac.specs.declared.fractions.Frac.{Frac}
 use Rattle.smp_frac.specs.LowestTerms.{lowest_terms}
 use Rattle.smp_kernel.specs.Vectors.{entry}
-use Rattle.smp_prob.specs.Inclusions.{asked_fraction, inclusion, is_taken}
-use Rattle.smp_prob.specs.Requests.{IsRequest}
-use Rattle.smp_weights.specs.Chosen.{chosen_units}
-use Rattle.smp_weights.specs.Values.{weighted_total}
+use Rattle.smp_prob.specs.{Inclusions.{asked_fraction, inclusion, is_taken}, Requests.{IsRequest}}
+use Rattle.smp_weights.specs.{Chosen.{chosen_units}, Values.{weighted_total}}
 use Rattle.smp_weights.proofs.Values.{estimate_value}
-use Rattle.smp_twostage.specs.Strata.{StratumUnits, value_in, values_of}
+use Rattle.smp_twostage.specs.{Strata.{StratumUnits, value_in, values_of}, DrawnLines.{Drawn, column_estimate, column_of, known_sum}}
 use Rattle.smp_twostage.specs.Totals.{counted, estimate, known, known_value, over_frame, size_of, variable_of}
-use Rattle.smp_twostage.specs.DrawnLines.{Drawn, column_estimate, column_of, known_sum}
 use Rattle.smp_twostage.specs.Reports.{AreUnitRows, EachRowTells, TellsColumn, TellsRows, UnitRows, free_before, no_stratum, stratum_at}
-use Rattle.smp_twostage.proofs.Balances.{estimate_in, known_in}
-use Rattle.smp_twostage.proofs.RowSums.{over_places}
-use Rattle.smp_twostage.proofs.BalanceSums.{chosen_sum, known_all, sum_first}
+use Rattle.smp_twostage.proofs.{Balances.{estimate_in, known_in}, RowSums.{over_places}, BalanceSums.{chosen_sum, known_all, sum_first}}
 use Rattle.smp_twostage.proofs.ToldLines.{known_is, taken_is}
 
 -- ---- a variable over all strata, each by its number

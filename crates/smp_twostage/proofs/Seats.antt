@@ -1,23 +1,15 @@
 -- The seat of each row, from its place in the plan.
 use Rattle.std.proofs.Common.{◌≡◌, ◌≢◌, ℕ, suc, ◌+◌, ◌<◌, true, false, List, [], ◌∷◌, ◌++◌, length, map, Option, Some, None, arith, refl, sym, ap, subst, ◌∙◌}
-use Rattle.std.specs.Prelude.{is_some}
-use Rattle.std.specs.List.{range_with_len, slice_get}
-use Rattle.std.proofs.lemmas.Bool.{eq-eqb, ne_eqb}
-use Rattle.std.proofs.lemmas.List.FromFn.{map-range_with_len_more}
-use Rattle.std.proofs.lemmas.Option.{slice_get_within}
+use Rattle.std.specs.{Prelude.{is_some}, List.{range_with_len, slice_get}}
+use Rattle.std.proofs.{lemmas.Bool.{eq-eqb, ne_eqb}, lemmas.List.FromFn.{map-range_with_len_more}, lemmas.Option.{slice_get_within}}
 use Rattle.smp_prob.specs.declared.requests.Request.{Request}
 use Rattle.smp_design.specs.declared.method.Method.{Method}
 use Rattle.smp_split.specs.declared.places.Seat as seats
 use Rattle.smp_split.specs.declared.places.Seat.TheVariants.{First, Nowhere}
-use Rattle.smp_strata.specs.Plans.{Plan}
-use Rattle.smp_strata.specs.Seats.{IsSeat}
-use Rattle.smp_strata.specs.declared.strata.Seat.{Seat}
-use Rattle.smp_twostage.specs.Plans.{CanBeDrawn}
+use Rattle.smp_strata.specs.{Plans.{Plan}, Seats.{IsSeat}, declared.strata.Seat.{Seat}}
+use Rattle.smp_twostage.specs.{Plans.{CanBeDrawn}, Laws.Covered.{alone_there}, Laws.Numbering.{second_there}}
 use Rattle.smp_twostage.specs.Selections.{first_number, is_of_stratum, parts_by, place_of, place_together, seat_alone, seat_by, seat_of, seat_together, stages_of, units_before}
-use Rattle.smp_twostage.specs.Laws.Covered.{alone_there}
-use Rattle.smp_twostage.specs.Laws.Numbering.{second_there}
-use Rattle.smp_twostage.specs.Laws.Places.{StandsIn, place_is_seat}
-use Rattle.smp_twostage.specs.Laws.Staged.{place_stands, seconds_in}
+use Rattle.smp_twostage.specs.{Laws.Places.{StandsIn, place_is_seat}, Laws.Staged.{place_stands, seconds_in}}
 use Rattle.smp_twostage.proofs.Columns.{is_planned}
 
 module _ (plan : Plan) (drawable : CanBeDrawn plan) (row : ℕ) (l : row < plan.rows) (p : Seat) (once : (s : Seat) → IsSeat plan.strata row s → s ≡ p) where

@@ -1,40 +1,23 @@
 -- What is told of the first stage units of a section can be told.
 use Rattle.std.proofs.Common.{◌≡◌, ℕ, ◌+◌, ◌-◌, ◌^◌, ◌<◌, ◌≤◌, Bool, true, false, ℤ, List, [], ◌∷◌, ◌++◌, All, length, map, get_or, Option, Some, arith, refl, sym, ap, ◌∙◌, subst}
-use Rattle.std.specs.Prelude.{if◌then◌else◌, option_map, unwrap_or}
-use Rattle.std.specs.List.{range_with_len, slice_get}
-use Rattle.std.proofs.lemmas.Bool.{lt-ltb}
-use Rattle.std.proofs.lemmas.Simd.{map-map}
-use Rattle.std.proofs.lemmas.List.Elements.{All-from_get_or, All-get_or}
+use Rattle.std.specs.{Prelude.{if◌then◌else◌, option_map, unwrap_or}, List.{range_with_len, slice_get}}
+use Rattle.std.proofs.{lemmas.Bool.{lt-ltb}, lemmas.Simd.{map-map}, lemmas.List.Elements.{All-from_get_or, All-get_or}}
 use Rattle.std.proofs.lemmas.List.FromFn.{get_or-map-range_with_len, length-map-range_with_len, map-range_with_len_more}
 use Rattle.std.proofs.lemmas.Option.{get_or_from_slice_get, slice_get-map, slice_get_within}
-use Rattle.smp_frac.specs.Fractions.{Same}
-use Rattle.smp_frac.specs.declared.fractions.Frac.{Frac}
-use Rattle.smp_frac.specs.Exact.{fraction}
-use Rattle.smp_frac.specs.LowestTerms.{lowest_terms}
+use Rattle.smp_frac.specs.{Fractions.{Same}, declared.fractions.Frac.{Frac}, Exact.{fraction}, LowestTerms.{lowest_terms}}
 use Rattle.smp_kernel.specs.Vectors.{Within}
 use Rattle.smp_prob.specs.Inclusions.{asked_fraction, inclusion}
 use Rattle.smp_twostage.specs.DrawnLines as balance
-use Rattle.smp_twostage.specs.DrawnLines.{AreTold}
-use Rattle.smp_twostage.specs.Strata.{values_of}
-use Rattle.smp_twostage.specs.Totals.{can_be_selected}
-use Rattle.smp_twostage.proofs.ToldLines.{asked_is, asked_positive}
+use Rattle.smp_twostage.specs.{DrawnLines.{AreTold}, Strata.{values_of}, Totals.{can_be_selected}, Lines.{seat_values, told, told_seats}}
+use Rattle.smp_twostage.proofs.{ToldLines.{asked_is, asked_positive}, Columns.{is_planned, near_within, stratum_at}}
 use Rattle.smp_design.specs.Words.{balances}
 use Rattle.smp_methods.specs.declared.any.AnyState.{AnyState}
 use Rattle.smp_split.specs.Laws.Reads.{some_within}
-use Rattle.smp_strata.specs.Bounds.{IsFirst}
-use Rattle.smp_strata.specs.Plans.{Plan}
-use Rattle.smp_strata.specs.Seats.{IsSeat, first_fraction}
-use Rattle.smp_strata.specs.declared.strata.FirstUnit.{FirstUnit}
-use Rattle.smp_strata.specs.declared.strata.Seat.{Seat}
-use Rattle.smp_strata.specs.declared.strata.Stratum.{Stratum}
-use Rattle.smp_twostage.specs.Kept.Stages.{IsThere, each_told, told_count, told_seat}
-use Rattle.smp_twostage.specs.Lines.{seat_values, told, told_seats}
-use Rattle.smp_twostage.specs.Plans.{CanBeDrawn}
-use Rattle.smp_twostage.specs.Selections.{Coverage, balancing, covers, is_together, place_of, units_at}
-use Rattle.smp_twostage.specs.Starts.{covered_first}
-use Rattle.smp_twostage.specs.Laws.Places.{place_is_seat}
+use Rattle.smp_strata.specs.{Bounds.{IsFirst}, Plans.{Plan}, Seats.{IsSeat, first_fraction}, declared.strata.FirstUnit.{FirstUnit}}
+use Rattle.smp_strata.specs.{declared.strata.Seat.{Seat}, declared.strata.Stratum.{Stratum}}
+use Rattle.smp_twostage.specs.{Kept.Stages.{IsThere, each_told, told_count, told_seat}, Plans.{CanBeDrawn}, Starts.{covered_first}}
+use Rattle.smp_twostage.specs.{Selections.{Coverage, balancing, covers, is_together, place_of, units_at}, Laws.Places.{place_is_seat}}
 use Rattle.smp_twostage.specs.Laws.Staged.{first_is, place_stands}
-use Rattle.smp_twostage.proofs.Columns.{is_planned, near_within, stratum_at}
 use Rattle.smp_twostage.proofs.Told.{balance_few, covered_open}
 
 -- one more

@@ -2,21 +2,13 @@
 use Rattle.std.proofs.Common.{◌≡◌, ℕ, ◌<◌, Bool, true, false, map, Some, arith, refl, sym, ap, subst}
 use Rattle.smp_design.specs.Words.{draws_together}
 use Rattle.smp_methods.specs.Designs.{first_state}
-use Rattle.smp_split.specs.Paths.{IsReached}
-use Rattle.smp_split.specs.Sectioning.{IsPartOf}
-use Rattle.smp_split.specs.OwnStages.{sections_by}
-use Rattle.smp_split.specs.Stages.{progress}
-use Rattle.smp_split.specs.Laws.Reads.{some_within}
+use Rattle.smp_split.specs.{Paths.{IsReached}, Sectioning.{IsPartOf}, OwnStages.{sections_by}, Stages.{progress}, Laws.Reads.{some_within}}
 use Rattle.smp_strata.specs.Plans.{Plan}
-use Rattle.smp_twostage.specs.Covered.{state_alone}
-use Rattle.smp_twostage.specs.Plans.{CanBeDrawn}
+use Rattle.smp_twostage.specs.{Covered.{state_alone}, Plans.{CanBeDrawn}}
 use Rattle.smp_twostage.specs.Selections.{BelongsToCovered, BelongsToWhole, all_of, covered_start, covered_tree, is_of_section, one_of, parts_by, section_count, stages_of, start_of, strata_sections, tree_of, whole_tree}
 use Rattle.smp_twostage.specs.Kept.Sides.{is_in_section, section_count_by, stages_before_by, stages_by}
-use Rattle.smp_twostage.proofs.Alone.{alone_part, states_run}
-use Rattle.smp_twostage.proofs.AloneBy.{own_state, reached_part, tree_alone}
-use Rattle.smp_twostage.proofs.Firsts.{covered_belongs, start_belongs}
-use Rattle.smp_twostage.proofs.StartsBy.{states_so, stages_so, tree_so}
-use Rattle.smp_twostage.proofs.Together.{together_part}
+use Rattle.smp_twostage.proofs.{Alone.{alone_part, states_run}, AloneBy.{own_state, reached_part, tree_alone}, Together.{together_part}}
+use Rattle.smp_twostage.proofs.{Firsts.{covered_belongs, start_belongs}, StartsBy.{states_so, stages_so, tree_so}}
 
 -- what holds of the start of section h alone
 pub record IsSectionStart (plan : Plan) (h : ℕ) : Type 0 where

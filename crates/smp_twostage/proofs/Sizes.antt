@@ -1,34 +1,20 @@
 -- By every method that doesn't balance, the first stage of a stratum selects one of the whole numbers of units around the expected one.
-use Rattle.std.proofs.Common.{◌≡◌, ℕ, true, false, List, length, Some, arith, refl, subst}
+use Rattle.std.proofs.{Common.{◌≡◌, ℕ, true, false, List, length, Some, arith, refl, subst}, lemmas.Option.{slice_get_within}}
 use Rattle.std.specs.List.{slice_get}
-use Rattle.std.proofs.lemmas.Option.{slice_get_within}
-use Rattle.smp_frac.specs.Bounds.{IsAround}
-use Rattle.smp_frac.specs.Fractions.{Same, whole, times}
-use Rattle.smp_frac.proofs.Around.{around_same}
-use Rattle.smp_frac.proofs.Arithmetic.{same_sym, same_trans, one-times, sum_same}
+use Rattle.smp_frac.specs.{Bounds.{IsAround}, Fractions.{Same, whole, times}}
+use Rattle.smp_frac.proofs.{Around.{around_same}, Arithmetic.{same_sym, same_trans, one-times, sum_same}}
 use Rattle.smp_prob.specs.Inclusions.{asked_fraction}
-use Rattle.smp_split.specs.Counts.{LeavesSelectAround, selected_count}
-use Rattle.smp_split.specs.Means.{value_sum}
-use Rattle.smp_split.specs.Paths.{AtEachLeaf}
-use Rattle.smp_split.proofs.RowsAround.{rows_around}
-use Rattle.smp_split.proofs.RowsAsked.{value_is_asked}
+use Rattle.smp_split.specs.{Counts.{LeavesSelectAround, selected_count}, Means.{value_sum}, Paths.{AtEachLeaf}, Stages.{is_drawn, progress}}
+use Rattle.smp_split.proofs.{RowsAround.{rows_around}, RowsAsked.{value_is_asked}}
 use Rattle.smp_design.specs.Words.{balances}
-use Rattle.smp_methods.specs.declared.any.AnyState.{AnyState}
-use Rattle.smp_methods.specs.Methods.{method_of}
+use Rattle.smp_methods.specs.{declared.any.AnyState.{AnyState}, Methods.{method_of}}
 use Rattle.smp_methods.proofs.Ways.{around_unless}
-use Rattle.smp_split.specs.StagePaths.{GoesByStages, IsStagePath}
-use Rattle.smp_split.specs.Stages.{is_drawn, progress}
-use Rattle.smp_split.specs.Laws.Reads.{some_within}
-use Rattle.smp_strata.specs.Draws.{expected_firsts}
-use Rattle.smp_strata.specs.Plans.{Plan}
-use Rattle.smp_strata.specs.declared.strata.Stratum.{Stratum}
-use Rattle.smp_twostage.specs.Kept.Stages.{EachStarts, StageStarts}
-use Rattle.smp_twostage.specs.Plans.{CanBeDrawn}
-use Rattle.smp_twostage.specs.Strata.{free_values}
+use Rattle.smp_split.specs.{StagePaths.{GoesByStages, IsStagePath}, Laws.Reads.{some_within}}
+use Rattle.smp_strata.specs.{Draws.{expected_firsts}, Plans.{Plan}, declared.strata.Stratum.{Stratum}}
+use Rattle.smp_twostage.specs.{Kept.Stages.{EachStarts, StageStarts}, Plans.{CanBeDrawn}, Strata.{free_values}}
 use Rattle.smp_twostage.specs.Selections.{Selecting, balancing, first_number, first_stage, free_points, stages_of, tree_of}
 use Rattle.smp_twostage.specs.Laws.Numbering.{first_there}
-use Rattle.smp_twostage.proofs.Columns.{is_planned}
-use Rattle.smp_twostage.proofs.StartsBy.{FirstSelectsAroundSo, tree_so}
+use Rattle.smp_twostage.proofs.{Columns.{is_planned}, StartsBy.{FirstSelectsAroundSo, tree_so}}
 
 module _ (plan : Plan) (drawable : CanBeDrawn plan) (other : balances plan.procedure.method ≡ false) (states : List AnyState) (each : EachStarts (stages_of plan) states)
     (h : ℕ) (s : Stratum) (is : slice_get plan.strata h ≡ Some s) where

@@ -3,8 +3,7 @@ use Rattle.std.proofs.Common.{List, [], ◌∷◌, ◌++◌, arith, refl, length
 use Rattle.smp_methods.specs.declared.any.AnyState.{AnyState}
 use Rattle.smp_split.specs.declared.places.Stage.{Stage}
 use Rattle.smp_split.proofs.Grown.{each_more}
-use Rattle.smp_twostage.specs.Kept.Stages.{EachStarts, StageStarts}
-use Rattle.smp_twostage.specs.Selections.{Selecting}
+use Rattle.smp_twostage.specs.{Kept.Stages.{EachStarts, StageStarts}, Selections.{Selecting}}
 
 pub none_start : EachStarts [] []
 none_start = record { paired = refl; each = λ i stage state is _. absurd (cc) }

@@ -1,44 +1,25 @@
 -- What holds of the whole selection from its start.
 use Rattle.std.proofs.Common.{◌≡◌, ℕ, zero, suc, ◌+◌, ◌*◌, ◌<◌, ◌≤◌, max, true, false, true≢false, ℤ, pos, negsuc, neg_ℤ, ◌*ℤ◌, List, [], ◌∷◌, length, map, Option, Some, None, arith, refl, sym, ap, subst, ◌∙◌}
-use Rattle.std.specs.Prelude.{is_some}
-use Rattle.std.specs.List.{count_by, range_with_len, slice_get}
+use Rattle.std.specs.{Prelude.{is_some}, List.{count_by, range_with_len, slice_get}}
 use Rattle.smp_frac.specs.Fractions.{Fraction, Same, whole, integer, inverse, times, sum_below}
 use Rattle.smp_frac.proofs.Arithmetic.{same_refl, same_sym, same_trans, times_same, sum_same, times-zero, times-one, times_comm, times_left_comm}
-use Rattle.smp_prob.specs.declared.requests.Request.{Request}
-use Rattle.smp_prob.specs.declared.inclusions.Inclusion.{Inclusion}
-use Rattle.smp_prob.specs.declared.inclusions.Inclusion.TheVariants.{Certain, Free, Never}
-use Rattle.smp_prob.specs.Inclusions.{fraction_at, inclusion}
-use Rattle.smp_design.specs.declared.method.Method.{Method}
-use Rattle.smp_design.specs.Words.{draws_together}
-use Rattle.smp_split.specs.Counts.{LeavesSelect, selected_count}
-use Rattle.smp_split.specs.Paths.{AtEachLeaf}
+use Rattle.smp_prob.specs.{declared.requests.Request.{Request}, declared.inclusions.Inclusion.{Inclusion}}
+use Rattle.smp_prob.specs.{declared.inclusions.Inclusion.TheVariants.{Certain, Free, Never}, Inclusions.{fraction_at, inclusion}}
+use Rattle.smp_design.specs.{declared.method.Method.{Method}, Words.{draws_together}}
+use Rattle.smp_split.specs.{Counts.{LeavesSelect, selected_count}, Paths.{AtEachLeaf}, declared.places.Stage.{Stage}}
 use Rattle.smp_split.proofs.RowsAsked.{rows_select}
-use Rattle.smp_methods.specs.declared.any.AnyState.{AnyState}
-use Rattle.smp_methods.specs.Designs.{first_state}
-use Rattle.smp_methods.specs.Methods.{method_of}
-use Rattle.smp_split.specs.declared.places.Stage.{Stage}
+use Rattle.smp_methods.specs.{declared.any.AnyState.{AnyState}, Designs.{first_state}, Methods.{method_of}}
 use Rattle.smp_split.specs.Stages.{Progress, EachBelongs, progress, seat_value, unit_value, drawn_within, is_drawn, selected_in, within_of}
-use Rattle.smp_split.specs.StagePaths.{GoesByStages}
-use Rattle.smp_split.specs.StageStarts.{StartsInStages}
-use Rattle.smp_split.specs.Laws.Reads.{some_within}
-use Rattle.std.proofs.lemmas.Bool.{and_parts}
-use Rattle.std.proofs.lemmas.Option.{slice_get_within}
-use Rattle.smp_strata.specs.Draws.{IsFor}
-use Rattle.smp_strata.specs.Plans.{Plan}
-use Rattle.smp_strata.specs.Seats.{first_at, first_fraction, place_fraction, stage_fraction, unit_fraction}
-use Rattle.smp_strata.specs.declared.strata.FirstUnit.{FirstUnit}
-use Rattle.smp_strata.specs.declared.strata.Stratum.{Stratum}
-use Rattle.smp_twostage.specs.Kept.Stages.{EachFirst, EachStarts, StageStarts}
-use Rattle.smp_twostage.specs.Plans.{CanBeDrawn}
+use Rattle.smp_split.specs.{StagePaths.{GoesByStages}, StageStarts.{StartsInStages}, Laws.Reads.{some_within}}
+use Rattle.std.proofs.{lemmas.Bool.{and_parts}, lemmas.Option.{slice_get_within}}
+use Rattle.smp_strata.specs.{Draws.{IsFor}, Plans.{Plan}, Seats.{first_at, first_fraction, place_fraction, stage_fraction, unit_fraction}}
+use Rattle.smp_strata.specs.{declared.strata.FirstUnit.{FirstUnit}, declared.strata.Stratum.{Stratum}}
+use Rattle.smp_twostage.specs.{Kept.Stages.{EachFirst, EachStarts, StageStarts}, Plans.{CanBeDrawn}, Kept.Sides.{states_of}}
 use Rattle.smp_twostage.specs.Selections.{Selecting, tree_of, belongs_to, first_stage, second_stage, stages_of, seats_of, first_number, place_of}
-use Rattle.smp_twostage.specs.Kept.Sides.{states_of}
-use Rattle.smp_twostage.specs.Starts.{StartsWhole, known, row_fraction, weighted}
-use Rattle.smp_twostage.specs.Laws.Numbering.{first_there, second_there}
+use Rattle.smp_twostage.specs.{Starts.{StartsWhole, known, row_fraction, weighted}, Laws.Numbering.{first_there, second_there}}
 use Rattle.smp_twostage.specs.Laws.Staged.{length_seats, none_in, seconds_in}
-use Rattle.smp_twostage.proofs.Cubes.{drawn_by_cube}
-use Rattle.smp_twostage.proofs.Sizes.{firsts_around}
+use Rattle.smp_twostage.proofs.{Cubes.{drawn_by_cube}, Sizes.{firsts_around}, Values.{row_value_is}}
 use Rattle.smp_twostage.proofs.StartsBy.{FirstSelectsSo, SecondSelectsSo, StartsBy, starts_whole_by, tree_so}
-use Rattle.smp_twostage.proofs.Values.{row_value_is}
 
 pub each_belongs : (stages : List (Stage Selecting)) (states : List AnyState) → EachStarts stages states → EachBelongs tree_of belongs_to stages states
 each_belongs stages states each = record { paired = each.paired; each = λ i stage state is_stage is_state. (each.each i stage state is_stage is_state).member }

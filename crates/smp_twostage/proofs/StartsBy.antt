@@ -1,28 +1,17 @@
 -- What a selection of all strata starts with, where it is known whether they are drawn together.
 use Rattle.std.proofs.Common.{◌≡◌, ℕ, suc, ◌+◌, ◌<◌, Bool, true, false, ℤ, List, length, map, Some}
 use Rattle.std.specs.List.{count_by, range_with_len, slice_get}
-use Rattle.smp_frac.specs.Bounds.{IsAround}
-use Rattle.smp_frac.specs.Fractions.{Fraction, Same, integer, sum_below}
-use Rattle.smp_split.specs.Means.{mean, inclusion_probability}
-use Rattle.smp_split.specs.Paths.{AtEachLeaf, Entry}
-use Rattle.smp_split.specs.Trees.{Tree}
+use Rattle.smp_frac.specs.{Bounds.{IsAround}, Fractions.{Fraction, Same, integer, sum_below}}
+use Rattle.smp_split.specs.{Means.{mean, inclusion_probability}, Paths.{AtEachLeaf, Entry}, Trees.{Tree}, declared.places.Stage.{Stage}}
 use Rattle.smp_design.specs.Words.{balances, draws_together}
 use Rattle.smp_prob.specs.declared.requests.Request.{Request}
-use Rattle.smp_twostage.specs.Totals.{IsBalancedFrame}
-use Rattle.smp_methods.specs.declared.any.AnyState.{AnyState}
-use Rattle.smp_methods.specs.Designs.{first_state}
-use Rattle.smp_split.specs.declared.places.Stage.{Stage}
-use Rattle.smp_split.specs.StagePaths.{GoesByStages}
-use Rattle.smp_split.specs.Stages.{IsUnderWay, Progress, selected_in, staged_tree}
-use Rattle.smp_strata.specs.Draws.{IsFor, expected_firsts}
-use Rattle.smp_strata.specs.Plans.{Plan}
-use Rattle.smp_strata.specs.declared.strata.FirstUnit.{FirstUnit}
+use Rattle.smp_twostage.specs.{Totals.{IsBalancedFrame}, Cubes.{IsDrawnByCube, IsDrawnTogether, frame_of}, Plans.{CanBeDrawn}}
+use Rattle.smp_methods.specs.{declared.any.AnyState.{AnyState}, Designs.{first_state}}
+use Rattle.smp_split.specs.{StagePaths.{GoesByStages}, Stages.{IsUnderWay, Progress, selected_in, staged_tree}}
+use Rattle.smp_strata.specs.{Draws.{IsFor, expected_firsts}, Plans.{Plan}, declared.strata.FirstUnit.{FirstUnit}}
 use Rattle.smp_strata.specs.declared.strata.Stratum.{Stratum}
-use Rattle.smp_twostage.specs.Cubes.{IsDrawnByCube, IsDrawnTogether, frame_of}
-use Rattle.smp_twostage.specs.Plans.{CanBeDrawn}
 use Rattle.smp_twostage.specs.Selections.{Selecting, all_of, belongs_to, first_number, is_together, tree_of}
-use Rattle.smp_twostage.specs.Kept.Sides.{first_place_by, seats_in, stages_by}
-use Rattle.smp_twostage.specs.Starts.{StartsWhole, known, row_fraction, weighted}
+use Rattle.smp_twostage.specs.{Kept.Sides.{first_place_by, seats_in, stages_by}, Starts.{StartsWhole, known, row_fraction, weighted}}
 
 module _ (together : Bool) (plan : Plan) where
   abbrev pub stages_so : List (Stage Selecting)

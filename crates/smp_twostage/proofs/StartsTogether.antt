@@ -1,35 +1,20 @@
 -- What a selection of all strata together starts with, and one of its only section.
 use Rattle.std.proofs.Common.{◌≡◌, ℕ, ◌<◌, true, true≢false, ℤ, [], ◌∷◌, length, Some, None, arith, refl, sym, ap, subst, ◌∙◌}
-use Rattle.std.specs.Prelude.{is_some}
-use Rattle.std.specs.List.{count_by, range_with_len, slice_get}
-use Rattle.std.proofs.lemmas.Option.{slice_get_within}
-use Rattle.std.proofs.lemmas.List.{length-map}
+use Rattle.std.specs.{Prelude.{is_some}, List.{count_by, range_with_len, slice_get}}
+use Rattle.std.proofs.{lemmas.Option.{slice_get_within}, lemmas.List.{length-map}}
 use Rattle.smp_frac.specs.Fractions.{Fraction, Same, integer, sum_below, times}
 use Rattle.smp_frac.proofs.Arithmetic.{same_trans, sum_same}
 use Rattle.smp_design.specs.Words.{draws_together}
 use Rattle.smp_design.proofs.Rows.{together_balances}
-use Rattle.smp_methods.specs.declared.any.AnyState.{AnyState}
-use Rattle.smp_methods.specs.Designs.{design_of_strata, first_state}
-use Rattle.smp_methods.specs.Starts.{AreStarted}
-use Rattle.smp_split.specs.StageStarts.{StartsInStages}
-use Rattle.smp_split.specs.Stages.{Progress, progress, seat_value, unit_value}
-use Rattle.smp_strata.specs.Draws.{IsFor}
-use Rattle.smp_strata.specs.Plans.{Plan}
-use Rattle.smp_strata.specs.declared.strata.Stratum.{Stratum}
-use Rattle.smp_stratcube.specs.Counts.{selected_in}
-use Rattle.smp_stratcube.specs.Kept.Layers.{first_of}
-use Rattle.smp_twostage.specs.Covered.{StartsAlone}
-use Rattle.smp_twostage.specs.Cubes.{units_together}
-use Rattle.smp_twostage.specs.Plans.{CanBeDrawn}
-use Rattle.smp_twostage.specs.Selections.{belongs_to, layers_of, seats_together, stage_of_strata, tree_of}
+use Rattle.smp_methods.specs.{declared.any.AnyState.{AnyState}, Designs.{design_of_strata, first_state}, Starts.{AreStarted}}
+use Rattle.smp_split.specs.{StageStarts.{StartsInStages}, Stages.{Progress, progress, seat_value, unit_value}}
+use Rattle.smp_strata.specs.{Draws.{IsFor}, Plans.{Plan}, declared.strata.Stratum.{Stratum}}
+use Rattle.smp_stratcube.specs.{Counts.{selected_in}, Kept.Layers.{first_of}}
+use Rattle.smp_twostage.specs.{Covered.{StartsAlone}, Cubes.{units_together}, Plans.{CanBeDrawn}, Laws.Covered.{length_together}}
+use Rattle.smp_twostage.specs.{Selections.{belongs_to, layers_of, seats_together, stage_of_strata, tree_of}, Laws.Staged.{none_in}}
 use Rattle.smp_twostage.specs.Starts.{StartsWhole, known, row_fraction, weighted}
-use Rattle.smp_twostage.specs.Laws.Covered.{length_together}
-use Rattle.smp_twostage.specs.Laws.Staged.{none_in}
-use Rattle.smp_twostage.proofs.AloneBy.{AloneBy, starts_alone_by}
-use Rattle.smp_twostage.proofs.DrawnTogether.{chosen, drawn_together, selected_count_is}
-use Rattle.smp_twostage.proofs.Firsts.{start_belongs}
-use Rattle.smp_twostage.proofs.Frames.{is_balanced_frame}
-use Rattle.smp_twostage.proofs.Starts.{weighs_row}
+use Rattle.smp_twostage.proofs.{AloneBy.{AloneBy, starts_alone_by}, DrawnTogether.{chosen, drawn_together, selected_count_is}}
+use Rattle.smp_twostage.proofs.{Firsts.{start_belongs}, Frames.{is_balanced_frame}, Starts.{weighs_row}}
 use Rattle.smp_twostage.proofs.StartsBy.{FirstSelectsSo, StartsBy, starts_whole_by}
 use Rattle.smp_twostage.proofs.Together.{layer_in, row_value_is, run_counts, stage_member, target_adds, together_part}
 

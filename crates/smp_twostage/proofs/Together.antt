@@ -1,73 +1,39 @@
 -- What holds of a selection of all strata together from its start.
 use Rattle.std.proofs.Common.{◌≡◌, ℕ, zero, suc, ◌+◌, ◌*◌, ◌<◌, Bool, true, false, List, [], ◌∷◌, length, map, get_or, Option, Some, None, All, arith, refl, sym, ap, ap₂, subst, true≢false, ◌∙◌, length-append}
-use Rattle.std.specs.Prelude.{◌&&◌, cond, is_some, nat_eq, nat_lt, option_map}
-use Rattle.std.specs.List.{count_by, range_with_len, slice_get}
-use Rattle.std.proofs.lemmas.Bool.{lt-ltb}
-use Rattle.std.proofs.lemmas.List.{length-map}
-use Rattle.std.proofs.lemmas.List.FromFn.{length-map-range_with_len}
+use Rattle.std.specs.{Prelude.{◌&&◌, cond, is_some, nat_eq, nat_lt, option_map}, List.{count_by, range_with_len, slice_get}}
+use Rattle.std.proofs.{lemmas.Bool.{lt-ltb}, lemmas.List.{length-map}, lemmas.List.FromFn.{length-map-range_with_len}}
 use Rattle.std.proofs.lemmas.List.Elements.{All-get_or, All-head, All-tail}
 use Rattle.std.proofs.lemmas.Option.{get_or_from_slice_get, same_Some, slice_get-map, slice_get_within}
 use Rattle.smp_frac.specs.Fractions.{Fraction, Same, over, sum_below, times, whole}
 use Rattle.smp_frac.proofs.Arithmetic.{one-times, same_refl, same_sym, same_trans, sum_same, times-one, zero-times}
-use Rattle.smp_prob.specs.declared.requests.Request.{Request}
-use Rattle.smp_prob.specs.declared.inclusions.Inclusion.{Inclusion}
+use Rattle.smp_prob.specs.{declared.requests.Request.{Request}, declared.inclusions.Inclusion.{Inclusion}}
 use Rattle.smp_prob.specs.declared.inclusions.Inclusion.TheVariants.{Certain, Free, Never}
 use Rattle.smp_prob.specs.Inclusions.{asked_fraction, fraction_at, free_fraction, inclusion}
 use Rattle.smp_prob.proofs.Fractions.{length-numerators, numerator_is_free_fraction}
-use Rattle.smp_split.specs.Trees.{Tree}
-use Rattle.smp_split.proofs.NumberSums.{sum_by-range, sums}
+use Rattle.smp_split.specs.{Trees.{Tree}, Rows.{row_value}, Laws.Rows.{free_within}, Methods.{HasMeans}, Sectioning.{IsPartOf}}
+use Rattle.smp_split.proofs.{NumberSums.{sum_by-range, sums}, OwnStages.{is_part}}
 use Rattle.smp_values.specs.Starts.{DrawsWhole}
 use Rattle.smp_values.proofs.Requests.{adds_to_draws, requested_values}
-use Rattle.smp_moves.specs.Moves.{fraction_of}
-use Rattle.smp_split.specs.Rows.{row_value}
-use Rattle.smp_split.specs.Laws.Rows.{free_within}
-use Rattle.smp_methods.specs.declared.any.AnyState.{AnyState}
+use Rattle.smp_moves.specs.{Moves.{fraction_of}, Cubes.{values_in}}
+use Rattle.smp_methods.specs.{declared.any.AnyState.{AnyState}, Designs.{design_of_strata, first_state}, Methods.{method_of}}
 use Rattle.smp_design.specs.Words.{draws_together}
-use Rattle.smp_methods.specs.Designs.{design_of_strata, first_state}
-use Rattle.smp_methods.specs.Methods.{method_of}
-use Rattle.smp_split.specs.Methods.{HasMeans}
-use Rattle.smp_split.specs.Sectioning.{IsPartOf}
-use Rattle.smp_split.specs.declared.places.Seat.{Seat as Seat_in_stages}
-use Rattle.smp_split.specs.declared.places.Seat.TheVariants.{Nowhere, First, Second}
-use Rattle.smp_split.specs.declared.places.Stage.{Stage}
-use Rattle.smp_split.specs.OwnStages.{AreTheirOwn, seat_later, sections_by}
+use Rattle.smp_split.specs.{declared.places.Seat.{Seat as Seat_in_stages}, declared.places.Seat.TheVariants.{Nowhere, First, Second}}
+use Rattle.smp_split.specs.{declared.places.Stage.{Stage}, OwnStages.{AreTheirOwn, seat_later, sections_by}}
 use Rattle.smp_split.specs.Stages.{IsUnderWay, seat_value, unit_value}
-use Rattle.smp_split.proofs.OwnStages.{is_part}
-use Rattle.smp_strata.specs.Bounds.{IsOver}
-use Rattle.smp_strata.specs.Plans.{Plan}
-use Rattle.smp_strata.specs.Seats.{stage_fraction}
-use Rattle.smp_strata.specs.declared.strata.Seat.{Seat}
+use Rattle.smp_strata.specs.{Bounds.{IsOver}, Plans.{Plan}, Seats.{stage_fraction}, declared.strata.Seat.{Seat}}
 use Rattle.smp_strata.specs.declared.strata.Stratum.{Stratum}
-use Rattle.smp_stratcube.specs.Cube.{strat_tree}
+use Rattle.smp_stratcube.specs.{Cube.{strat_tree}, declared.values.Value.{Value}, Balances.{addend, target}, Counts.{selected_in}}
 use Rattle.smp_stratcube.specs.States as together
-use Rattle.smp_moves.specs.Cubes.{values_in}
-use Rattle.smp_stratcube.specs.declared.values.Value.{Value}
-use Rattle.smp_stratcube.specs.Balances.{addend, target}
-use Rattle.smp_stratcube.specs.Counts.{selected_in}
-use Rattle.smp_stratcube.specs.Layers.{Layer, no_layer}
-use Rattle.smp_stratcube.specs.Kept.Layers.{layer_of, first_of}
-use Rattle.smp_stratcube.specs.Requests.{AreRequested, offset}
-use Rattle.smp_stratcube.specs.Units.{IsUnits, member_of, members_from, share, stratum}
-use Rattle.smp_stratcube.specs.Values.{is_one, value_at}
-use Rattle.smp_stratcube.proofs.Balances.{first_at}
-use Rattle.smp_stratcube.proofs.StratumSums.{whole_same, whole_sum}
-use Rattle.smp_twostage.specs.Strata.{free_values}
-use Rattle.smp_twostage.specs.Cubes.{balancing, units_together}
-use Rattle.smp_twostage.specs.Plans.{CanBeDrawn}
+use Rattle.smp_stratcube.specs.{Layers.{Layer, no_layer}, Kept.Layers.{layer_of, first_of}, Requests.{AreRequested, offset}}
+use Rattle.smp_stratcube.specs.{Units.{IsUnits, member_of, members_from, share, stratum}, Values.{is_one, value_at}}
+use Rattle.smp_stratcube.proofs.{Balances.{first_at}, StratumSums.{whole_same, whole_sum}}
+use Rattle.smp_twostage.specs.{Strata.{free_values}, Cubes.{balancing, units_together}, Plans.{CanBeDrawn}, Kept.Stages.{EachFirst}}
 use Rattle.smp_twostage.specs.Selections.{BelongsToWhole, Selecting, all_of, belongs_to, layers_of, numbers_from, place_of, seat_together}
-use Rattle.smp_twostage.specs.Selections.{seats_together, stage_of_strata, tree_of, units_before}
-use Rattle.smp_twostage.specs.Kept.Sides.{is_in_section, section_count_by, stages_before_by, stages_by}
-use Rattle.smp_twostage.specs.Kept.Stages.{EachFirst}
-use Rattle.smp_twostage.specs.Starts.{row_fraction}
-use Rattle.smp_twostage.specs.Laws.Covered.{made_at, sections_case, together_staged}
-use Rattle.smp_twostage.specs.Laws.Places.{StandsIn}
-use Rattle.smp_twostage.specs.Laws.Staged.{first_is, place_stands}
-use Rattle.smp_twostage.proofs.Columns.{are_over}
-use Rattle.smp_twostage.proofs.OverAll.{free_before, over_rises, stands_behind, stands_over}
-use Rattle.smp_twostage.proofs.AloneBy.{own_state, tree_alone}
-use Rattle.smp_twostage.proofs.LayerRuns.{run, term_of}
-use Rattle.smp_twostage.proofs.StartsBy.{tree_so}
-use Rattle.smp_twostage.proofs.Values.{fraction_is}
+use Rattle.smp_twostage.specs.{Selections.{seats_together, stage_of_strata, tree_of, units_before}, Starts.{row_fraction}}
+use Rattle.smp_twostage.specs.{Kept.Sides.{is_in_section, section_count_by, stages_before_by, stages_by}, Laws.Places.{StandsIn}}
+use Rattle.smp_twostage.specs.{Laws.Covered.{made_at, sections_case, together_staged}, Laws.Staged.{first_is, place_stands}}
+use Rattle.smp_twostage.proofs.{Columns.{are_over}, OverAll.{free_before, over_rises, stands_behind, stands_over}, LayerRuns.{run, term_of}}
+use Rattle.smp_twostage.proofs.{AloneBy.{own_state, tree_alone}, StartsBy.{tree_so}, Values.{fraction_is}}
 
 -- ---- the free units of a stratum
 

@@ -1,39 +1,23 @@
 -- A first stage unit that is selected can be, and a stratum is one that the cube draws from.
 use Rattle.std.proofs.Common.{◌≡◌, ℕ, ◌-◌, ◌^◌, ◌<◌, ◌≤◌, Bool, true, false, true≢false, ℤ, List, [], ◌∷◌, All, length, map, Option, Some, None, refl, sym, ap, ◌∙◌, arith}
-use Rattle.std.specs.Prelude.{◌||◌}
-use Rattle.std.specs.List.{slice_get}
-use Rattle.std.proofs.lemmas.Bool.{and_parts, eqb-true}
-use Rattle.std.proofs.lemmas.List.{length-map}
-use Rattle.std.proofs.lemmas.List.Elements.{All-get_or, All-map, All-weaker}
-use Rattle.smp_prob.specs.declared.inclusions.Inclusion.{Inclusion}
-use Rattle.smp_prob.specs.declared.inclusions.Inclusion.TheVariants.{Certain, Free, Never}
+use Rattle.std.specs.{Prelude.{◌||◌}, List.{slice_get}}
+use Rattle.std.proofs.{lemmas.Bool.{and_parts, eqb-true}, lemmas.List.{length-map}, lemmas.List.Elements.{All-get_or, All-map, All-weaker}}
+use Rattle.smp_prob.specs.{declared.inclusions.Inclusion.{Inclusion}, declared.inclusions.Inclusion.TheVariants.{Certain, Free, Never}}
 use Rattle.smp_prob.specs.Inclusions.{is_taken, inclusion}
 use Rattle.smp_kernel.specs.Vectors.{Within}
 use Rattle.smp_flight.specs.Requests.{AreValues}
-use Rattle.smp_twostage.specs.Strata.{AreStratumUnits, column_count}
-use Rattle.smp_twostage.specs.Totals.{can_be_selected}
+use Rattle.smp_twostage.specs.{Strata.{AreStratumUnits, column_count}, Totals.{can_be_selected}, Cubes.{balancing}, Kept.Stages.{IsPlanned}}
 use Rattle.smp_design.specs.Words.{row, balances}
 use Rattle.smp_design.proofs.Rows.{balance_columns}
-use Rattle.smp_methods.specs.declared.any.AnyState.{AnyState}
-use Rattle.smp_methods.specs.Methods.{method_of}
+use Rattle.smp_methods.specs.{declared.any.AnyState.{AnyState}, Methods.{method_of}}
 use Rattle.smp_methods.proofs.Columns.{are_values}
-use Rattle.smp_split.specs.declared.places.Stage.{Stage}
-use Rattle.smp_split.specs.declared.places.Place.{Place}
+use Rattle.smp_split.specs.{declared.places.Stage.{Stage}, declared.places.Place.{Place}}
 use Rattle.smp_split.specs.Stages.{is_drawn, read, selected_in, unit_selected}
-use Rattle.smp_strata.specs.Bounds.{IsFirst}
-use Rattle.smp_strata.specs.Plans.{Plan}
-use Rattle.smp_strata.specs.declared.strata.FirstUnit.{FirstUnit}
-use Rattle.smp_strata.specs.declared.strata.Stratum.{Stratum}
-use Rattle.smp_twostage.specs.Cubes.{balancing}
-use Rattle.smp_twostage.specs.Kept.Stages.{IsPlanned}
-use Rattle.smp_twostage.specs.Plans.{CanBeDrawn}
+use Rattle.smp_strata.specs.{Bounds.{IsFirst}, Plans.{Plan}, declared.strata.FirstUnit.{FirstUnit}, declared.strata.Stratum.{Stratum}}
+use Rattle.smp_twostage.specs.{Plans.{CanBeDrawn}, Kept.Sides.{first_place_by, stages_by}, Starts.{covered_first}}
 use Rattle.smp_twostage.specs.Selections.{Coverage, Selecting, covered_number, covered_parts, covers, first_number, first_stage, is_only, is_together, parts_by, place_together, stage_of_strata, stages_of, tree_of}
-use Rattle.smp_twostage.specs.Kept.Sides.{first_place_by, stages_by}
-use Rattle.smp_twostage.specs.Starts.{covered_first}
-use Rattle.smp_twostage.specs.Laws.Covered.{alone_there}
-use Rattle.smp_twostage.specs.Laws.Numbering.{first_there}
-use Rattle.smp_twostage.proofs.Columns.{are_over, is_planned, near_within}
-use Rattle.smp_twostage.proofs.OverAll.{free_before, stands_behind, stands_over}
+use Rattle.smp_twostage.specs.{Laws.Covered.{alone_there}, Laws.Numbering.{first_there}}
+use Rattle.smp_twostage.proofs.{Columns.{are_over, is_planned, near_within}, OverAll.{free_before, stands_behind, stands_over}}
 
 -- ---- a first stage unit that is selected can be
 

@@ -1,25 +1,16 @@
 -- Probabilities in lowest terms, and lines one after another.
 use Rattle.std.proofs.Common.{◌≡◌, ◌≢◌, ℕ, suc, ◌+◌, ◌<◌, ◌≤◌, Bool, true, false, true≢false, cond, ℤ, pos, List, [], ◌∷◌, ◌++◌, map, drop, length, get_or, arith, refl, sym, ap, subst, ◌∙◌, drop-cons, mul-pos}
-use Rattle.std.specs.Prelude.{nat_eq, slice_index}
-use Rattle.std.specs.List.{flat_map, range_with_len}
-use Rattle.std.proofs.lemmas.Bool.{ne_eqb}
-use Rattle.std.proofs.lemmas.Int.{ints}
-use Rattle.std.proofs.lemmas.List.{append-nil, append_assoc, drop_all}
+use Rattle.std.specs.{Prelude.{nat_eq, slice_index}, List.{flat_map, range_with_len}, Int.RustNames.{unsigned_abs}}
+use Rattle.std.proofs.{lemmas.Bool.{ne_eqb}, lemmas.Int.{ints}, lemmas.List.{append-nil, append_assoc, drop_all}}
 use Rattle.std.proofs.lemmas.List.FromFn.{get_or-range_with_len, length-range_with_len}
-use Rattle.std.specs.Int.RustNames.{unsigned_abs}
-use Rattle.smp_frac.specs.Fractions.{Same, inverse, integer, times, whole}
+use Rattle.smp_frac.specs.{Fractions.{Same, inverse, integer, times, whole}, declared.fractions.Frac.{Frac}, Exact.{fraction}}
 use Rattle.smp_frac.proofs.Arithmetic.{inverse_same, same_refl, same_trans, times_same}
-use Rattle.smp_frac.specs.declared.fractions.Frac.{Frac}
-use Rattle.smp_frac.specs.Exact.{fraction}
-use Rattle.smp_prob.specs.declared.requests.Request.{Request}
-use Rattle.smp_prob.specs.declared.inclusions.Inclusion.{Inclusion}
+use Rattle.smp_prob.specs.{declared.requests.Request.{Request}, declared.inclusions.Inclusion.{Inclusion}, Requests.{IsRequest}}
 use Rattle.smp_prob.specs.declared.inclusions.Inclusion.TheVariants.{Certain, Free, Never}
-use Rattle.smp_prob.specs.Requests.{IsRequest}
 use Rattle.smp_prob.specs.Inclusions.{inclusion, fraction_at, asked_fraction, is_taken}
-use Rattle.smp_frac.specs.LowestTerms.{lowest_terms}
+use Rattle.smp_frac.specs.{LowestTerms.{lowest_terms}, Bounds.{absolute}}
 use Rattle.smp_weights.specs.Chosen.{weight}
 use Rattle.smp_split.specs.Laws.Rows.{free_within}
-use Rattle.smp_frac.specs.Bounds.{absolute}
 use Rattle.smp_frac.proofs.LowestTerms.{lowest_terms-positive, lowest_terms-value, same-lowest_terms}
 use Rattle.smp_twostage.specs.Totals.{can_be_selected}
 

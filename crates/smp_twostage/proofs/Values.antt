@@ -1,32 +1,20 @@
 -- Where each stage starts from its request, each row has the value that its plan gives it.
 use Rattle.std.proofs.Common.{◌≡◌, ℕ, true, false, suc, ◌+◌, ◌<◌, List, length, Option, Some, None, arith, refl, sym, ap, subst, ◌∙◌}
-use Rattle.std.specs.Prelude.{is_some, option_and_then}
-use Rattle.std.specs.List.{slice_get}
+use Rattle.std.specs.{Prelude.{is_some, option_and_then}, List.{slice_get}}
 use Rattle.std.proofs.lemmas.Option.{slice_get_within}
-use Rattle.smp_split.specs.Laws.Reads.{some_within}
+use Rattle.smp_split.specs.{Laws.Reads.{some_within}, declared.places.Place.{Place}, declared.places.Stage.{Stage}}
 use Rattle.smp_frac.specs.Fractions.{Fraction, Same, whole, times}
 use Rattle.smp_frac.proofs.Arithmetic.{same_sym, same_trans, times_same, times-one}
-use Rattle.smp_prob.specs.declared.requests.Request.{Request}
-use Rattle.smp_prob.specs.Inclusions.{asked_fraction}
+use Rattle.smp_prob.specs.{declared.requests.Request.{Request}, Inclusions.{asked_fraction}}
 use Rattle.smp_design.specs.declared.method.Method.{Method}
 use Rattle.smp_split.proofs.RowsAsked.{value_is_asked}
-use Rattle.smp_methods.specs.declared.any.AnyState.{AnyState}
-use Rattle.smp_methods.specs.Methods.{method_of}
-use Rattle.smp_split.specs.declared.places.Place.{Place}
-use Rattle.smp_split.specs.declared.places.Stage.{Stage}
+use Rattle.smp_methods.specs.{declared.any.AnyState.{AnyState}, Methods.{method_of}}
 use Rattle.smp_split.specs.Stages.{seat_value, unit_value, read}
-use Rattle.smp_strata.specs.Plans.{Plan}
-use Rattle.smp_strata.specs.Seats.{place_fraction, seat_fraction, stage_fraction, unit_fraction}
-use Rattle.smp_strata.specs.declared.strata.FirstUnit.{FirstUnit}
-use Rattle.smp_strata.specs.declared.strata.Seat.{Seat}
-use Rattle.smp_strata.specs.declared.strata.Stratum.{Stratum}
-use Rattle.smp_twostage.specs.Plans.{CanBeDrawn}
+use Rattle.smp_strata.specs.{Plans.{Plan}, Seats.{place_fraction, seat_fraction, stage_fraction, unit_fraction}}
+use Rattle.smp_strata.specs.{declared.strata.FirstUnit.{FirstUnit}, declared.strata.Seat.{Seat}, declared.strata.Stratum.{Stratum}}
+use Rattle.smp_twostage.specs.{Plans.{CanBeDrawn}, Starts.{row_fraction}, Kept.Stages.{EachStarts}, Laws.Covered.{its_place}}
 use Rattle.smp_twostage.specs.Selections.{Selecting, tree_of, stages_of, first_number, first_stage, is_of_stratum, parts_by, second_stage, seat_by, place_of, seats_of}
-use Rattle.smp_twostage.specs.Starts.{row_fraction}
-use Rattle.smp_twostage.specs.Kept.Stages.{EachStarts}
-use Rattle.smp_twostage.specs.Laws.Covered.{its_place}
-use Rattle.smp_twostage.specs.Laws.Numbering.{HaveSeconds, first_there, second_there}
-use Rattle.smp_twostage.specs.Laws.Places.{StandsIn}
+use Rattle.smp_twostage.specs.{Laws.Numbering.{HaveSeconds, first_there, second_there}, Laws.Places.{StandsIn}}
 use Rattle.smp_twostage.specs.Laws.Staged.{first_is, place_stands, seat_at, seconds_in}
 
 -- the value of a unit in its stage

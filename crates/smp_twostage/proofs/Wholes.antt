@@ -5,17 +5,11 @@ use Rattle.smp_methods.specs.Designs.{first_state}
 use Rattle.smp_split.specs.Stages.{progress}
 use Rattle.smp_split.proofs.StageStarts.{starts_in_stages}
 use Rattle.smp_strata.specs.Plans.{Plan}
-use Rattle.smp_twostage.specs.Plans.{CanBeDrawn}
+use Rattle.smp_twostage.specs.{Plans.{CanBeDrawn}, Kept.Sides.{states_of}, Starts.{StartsWhole}, Laws.Covered.{together_staged}}
 use Rattle.smp_twostage.specs.Selections.{belongs_to, seats_of, seats_together, stage_of_strata, stages_of, start_of, tree_of}
-use Rattle.smp_twostage.specs.Kept.Sides.{states_of}
-use Rattle.smp_twostage.specs.Starts.{StartsWhole}
-use Rattle.smp_twostage.specs.Laws.Covered.{together_staged}
-use Rattle.smp_twostage.specs.Laws.Staged.{whole_staged}
-use Rattle.smp_twostage.specs.Laws.Wholes.{stage_lawful}
-use Rattle.smp_twostage.proofs.Firsts.{each_starts, together_belongs, together_started}
-use Rattle.smp_twostage.proofs.Starts.{each_belongs, starts_whole}
-use Rattle.smp_twostage.proofs.StartsBy.{stages_so, states_so}
-use Rattle.smp_twostage.proofs.StartsTogether.{whole_together}
+use Rattle.smp_twostage.specs.{Laws.Staged.{whole_staged}, Laws.Wholes.{stage_lawful}}
+use Rattle.smp_twostage.proofs.{Firsts.{each_starts, together_belongs, together_started}, Starts.{each_belongs, starts_whole}}
+use Rattle.smp_twostage.proofs.{StartsBy.{stages_so, states_so}, StartsTogether.{whole_together}}
 
 module _ (plan : Plan) (drawable : CanBeDrawn plan) where
   start_by : (together : Bool) → draws_together plan.procedure.method ≡ together → StartsWhole plan (progress tree_of (stages_so together plan) (states_so together plan))

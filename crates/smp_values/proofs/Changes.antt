@@ -1,9 +1,7 @@
 -- Values with other numerators of one unit or of two units.
 use Rattle.std.proofs.Common.{◌≡◌, ◌≢◌, ℕ, ◌+◌, ◌<◌, ◌≤◌, true, false, cond, List, length, get_or, set, refl, ◌∙◌, inl, inr, ◌⊎◌, arith, length-set}
 use Rattle.std.specs.List.{count_by, sum, sum_by}
-use Rattle.std.proofs.lemmas.Bool.{cases_Bool, cases_eq}
-use Rattle.std.proofs.lemmas.List.{get_or-set_same, get_or-set_other}
-use Rattle.std.proofs.lemmas.List.Sums.{sum_by-set}
+use Rattle.std.proofs.{lemmas.Bool.{cases_Bool, cases_eq}, lemmas.List.{get_or-set_same, get_or-set_other}, lemmas.List.Sums.{sum_by-set}}
 use Rattle.smp_values.specs.Values.{fractional}
 
 -- ---- one unit

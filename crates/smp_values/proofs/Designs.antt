@@ -1,23 +1,17 @@
 -- Designs whose states are values: what they are at the end, and what an exchange of two units leaves.
 use Rattle.std.proofs.Common.{◌≡◌, ℕ, ◌<◌, true, false, cond, nat_eq, List, length, get_or, arith, refl, sym, ap, ◌∙◌}
 use Rattle.std.specs.List.{count_by, sum, swap}
-use Rattle.std.proofs.lemmas.Bool.{eqb-true}
-use Rattle.std.proofs.lemmas.List.Edits.{length-swap}
+use Rattle.std.proofs.{lemmas.Bool.{eqb-true}, lemmas.List.Edits.{length-swap}}
 use Rattle.std.proofs.lemmas.List.Sorted.{IsPermutation-swap, sum_by-IsPermutation}
-use Rattle.smp_frac.specs.Bounds.{IsAround}
-use Rattle.smp_frac.specs.Fractions.{over}
+use Rattle.smp_frac.specs.{Bounds.{IsAround}, Fractions.{over}}
 use Rattle.smp_frac.proofs.Arithmetic.{same_refl}
 use Rattle.smp_prob.specs.Shares.{Shares}
-use Rattle.smp_split.specs.Counts.{AddsUp, LeavesSelect, LeavesSelectAround}
-use Rattle.smp_split.specs.Orders.{Ordered, IsInOrder, IsExchange, exchange, ordered_tree}
-use Rattle.smp_split.specs.Trees.{Part, Lawful, LawfulEnd, LawfulSplit, EachPart}
-use Rattle.smp_split.specs.declared.kind.Kind.{Kind}
+use Rattle.smp_split.specs.{Counts.{AddsUp, LeavesSelect, LeavesSelectAround}, Trees.{Part, Lawful, LawfulEnd, LawfulSplit, EachPart}}
+use Rattle.smp_split.specs.{Orders.{Ordered, IsInOrder, IsExchange, exchange, ordered_tree}, declared.kind.Kind.{Kind}}
 use Rattle.smp_split.proofs.Counts.{KeepsCount, leaves_select, leaves_around, keeps_count, count_by-indices}
-use Rattle.smp_split.proofs.Orders.{get_or-swap, get_or-swap_exchange, ordered_lawful}
-use Rattle.smp_split.proofs.Sums.{list_adds, ordered_sum}
+use Rattle.smp_split.proofs.{Orders.{get_or-swap, get_or-swap_exchange, ordered_lawful}, Sums.{list_adds, ordered_sum}}
 use Rattle.smp_values.specs.Values.{AddTo, IsValues, exchanged_values, fractional, fractional_count, is_settled, values_tree}
-use Rattle.smp_values.proofs.Fractional.{IsSettled, not_fractional, over_settled, settled_count}
-use Rattle.smp_values.proofs.Near.{IsNear, near_count, near_same}
+use Rattle.smp_values.proofs.{Fractional.{IsSettled, not_fractional, over_settled, settled_count}, Near.{IsNear, near_count, near_same}}
 use Rattle.smp_values.proofs.Units.{none_fractional}
 
 module _ (units most : ℕ) (s : Shares) (ok : IsValues units most s) where

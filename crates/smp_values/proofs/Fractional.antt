@@ -5,8 +5,7 @@ use Rattle.std.proofs.lemmas.Bool.{and_cases, and_parts, and_right, eq-eqb, lt-l
 use Rattle.std.proofs.lemmas.List.Sums.{sum_by-cons}
 use Rattle.smp_values.specs.Values.{fractional}
 use Rattle.smp_frac.specs.Fractions.{Same, whole, over}
-use Rattle.smp_frac.proofs.Arithmetic.{cancel}
-use Rattle.smp_frac.proofs.Over.{over_zero, over_one}
+use Rattle.smp_frac.proofs.{Arithmetic.{cancel}, Over.{over_zero, over_one}}
 
 pub fractional_is : (den a : ℕ) → fractional den a ≡ true → (0 < a) × (a < den)
 fractional_is den a h =

@@ -1,13 +1,9 @@
 -- A selection in an order starts from any values in range.
 use Rattle.std.proofs.Common.{◌^◌, ◌<◌, length}
-use Rattle.smp_prob.specs.declared.orders.Order.{Order}
-use Rattle.smp_prob.specs.Shares.{Shares}
-use Rattle.smp_split.specs.Counts.{LeavesSelectAround}
-use Rattle.smp_split.specs.Methods.{Starts}
+use Rattle.smp_prob.specs.{declared.orders.Order.{Order}, Shares.{Shares}}
+use Rattle.smp_split.specs.{Counts.{LeavesSelectAround}, Methods.{Starts}}
 use Rattle.smp_split.proofs.Methods.{starts_around}
-use Rattle.smp_values.specs.InOrder.{StepRule, LawfulRule, placed_method}
-use Rattle.smp_values.specs.Starts.{ordered_values}
-use Rattle.smp_values.specs.Values.{IsValues}
+use Rattle.smp_values.specs.{InOrder.{StepRule, LawfulRule, placed_method}, Starts.{ordered_values}, Values.{IsValues}}
 use Rattle.smp_values.proofs.Requests.{starts_in_order}
 
 module _ (rule : StepRule) (law : LawfulRule rule) (order : Order) (s : Shares) (few : length s.numer < 2 ^ 64) (ok : IsValues (length s.numer) rule.most s) where

@@ -1,8 +1,7 @@
 -- The largest of some numbers.
 use Rattle.std.proofs.Common.{◌≡◌, ℕ, zero, suc, ◌*◌, ◌<◌, ◌≤◌, max, List, [], ◌∷◌, length, get_or, arith, inl, inr}
 use Rattle.std.specs.List.{sum}
-use Rattle.std.proofs.lemmas.Bool.{cases_lt}
-use Rattle.std.proofs.lemmas.List.Sums.{sum_by-cons}
+use Rattle.std.proofs.{lemmas.Bool.{cases_lt}, lemmas.List.Sums.{sum_by-cons}}
 use Rattle.smp_values.specs.Largest.{largest_of}
 
 -- a place with a property

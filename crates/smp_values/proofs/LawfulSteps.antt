@@ -1,19 +1,14 @@
 -- A pivotal step of two units, wherever they stand, and that of one unit alone: their parts are lawful.
 use Rattle.std.proofs.Common.{◌≡◌, ◌≢◌, ℕ, ◌+◌, ◌-◌, ◌*◌, ◌^◌, ◌<◌, ◌≤◌, true, false, min, length, get_or, set, arith, refl, ap, ◌∙◌, inl, inr, ◌⊎◌, length-set}
 use Rattle.std.specs.List.{sum}
-use Rattle.std.proofs.lemmas.Bool.{cases_eq}
-use Rattle.std.proofs.lemmas.List.{get_or-set_same, get_or-set_other}
+use Rattle.std.proofs.{lemmas.Bool.{cases_eq}, lemmas.List.{get_or-set_same, get_or-set_other}}
 use Rattle.smp_prob.specs.Shares.{Shares}
 use Rattle.smp_split.specs.Trees.{EachPart, IsPart, LawfulParts}
 use Rattle.smp_split.proofs.Over.{even_over}
-use Rattle.smp_values.specs.declared.pairs.TwoWeights.{TwoWeights}
-use Rattle.smp_values.specs.Pairs.{pair_weights}
+use Rattle.smp_values.specs.{declared.pairs.TwoWeights.{TwoWeights}, Pairs.{pair_weights}, Steps.{pair_parts, lone_parts, steps_tree}}
 use Rattle.smp_values.specs.Values.{IsValues, AddTo, fractional, is_fractional, with_one, with_pair}
-use Rattle.smp_values.specs.Steps.{pair_parts, lone_parts, steps_tree}
-use Rattle.smp_values.proofs.Fractional.{fractional_is, fractional_den}
+use Rattle.smp_values.proofs.{Fractional.{fractional_is, fractional_den}, Near.{IsNear, near_same}, PairNumbers.{IsPair, is_pair}}
 use Rattle.smp_values.proofs.Changes.{one_within, one_falls, two_at_i, two_at_j, two_elsewhere, two_within, two_fall, two_total}
-use Rattle.smp_values.proofs.Near.{IsNear, near_same}
-use Rattle.smp_values.proofs.PairNumbers.{IsPair, is_pair}
 
 module _ (units : ℕ) (s : Shares) (ok : IsValues units (2 ^ 80) s) where
   -- ---- one unit alone

@@ -1,18 +1,14 @@
 -- Values over one denominator on the way to a leaf. Their sum stays what it is, but for a last step on one fractional unit alone, which changes it
 -- by less than the denominator and leaves all values settled.
-use Rattle.std.proofs.Common.{◌≡◌, ℕ, ◌+◌, ◌*◌, ◌<◌, ◌≤◌, true, false, nat_eq, length, get_or, arith, refl, ap}
+use Rattle.std.proofs.{Common.{◌≡◌, ℕ, ◌+◌, ◌*◌, ◌<◌, ◌≤◌, true, false, nat_eq, length, get_or, arith, refl, ap}, lemmas.Bool.{eq-eqb}}
 use Rattle.std.specs.List.{count_by, sum}
-use Rattle.std.proofs.lemmas.Bool.{eq-eqb}
 use Rattle.std.proofs.lemmas.List.Sums.{sum_by-set}
-use Rattle.smp_frac.specs.Bounds.{IsAround}
-use Rattle.smp_frac.specs.Fractions.{over}
+use Rattle.smp_frac.specs.{Bounds.{IsAround}, Fractions.{over}}
 use Rattle.smp_frac.proofs.Around.{around_over}
 use Rattle.smp_prob.specs.Shares.{Shares}
 use Rattle.smp_split.specs.Trees.{EachPart}
-use Rattle.smp_values.specs.Steps.{lone_parts}
-use Rattle.smp_values.specs.Values.{fractional, fractional_count, is_fractional, is_settled, with_one}
-use Rattle.smp_values.proofs.Changes.{one_falls}
-use Rattle.smp_values.proofs.Fractional.{IsSettled, fractional_den, settled_sum}
+use Rattle.smp_values.specs.{Steps.{lone_parts}, Values.{fractional, fractional_count, is_fractional, is_settled, with_one}}
+use Rattle.smp_values.proofs.{Changes.{one_falls}, Fractional.{IsSettled, fractional_den, settled_sum}}
 
 -- the sum is the total as long as a unit is fractional, and always less than the denominator away from it
 pub record IsNear (total den : ℕ) (s : Shares) : Type 0 where

@@ -1,9 +1,7 @@
 -- The numbers of a pair step: its weights keep the mean of both values.
 use Rattle.std.proofs.Common.{◌≡◌, ℕ, ◌+◌, ◌-◌, ◌*◌, ◌<◌, ◌≤◌, min, false, nat_le, arith, refl, ap, ◌∙◌, inl, inr, ◌⊎◌}
 use Rattle.std.proofs.lemmas.Bool.{cases_Bool, leb-true, leb-false}
-use Rattle.smp_values.specs.declared.pairs.TwoWeights.{TwoWeights}
-use Rattle.smp_values.specs.Pairs.{pair_weights, pair_first, pair_second}
-use Rattle.smp_values.specs.Values.{fractional}
+use Rattle.smp_values.specs.{declared.pairs.TwoWeights.{TwoWeights}, Pairs.{pair_weights, pair_first, pair_second}, Values.{fractional}}
 use Rattle.smp_values.proofs.Fractional.{fractional_den}
 
 -- with den = p + q + r, a = r + p and b = q + r

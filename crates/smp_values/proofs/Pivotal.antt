@@ -8,12 +8,9 @@ use Rattle.smp_split.specs.Laws.Steps.{picked_is_part}
 use Rattle.smp_values.specs.Kept.Places.{IsGoing, first_of, second_of}
 use Rattle.smp_values.specs.Steps.{lone_parts, pair_parts, pivotal_kind, pivotal_parts, steps_tree}
 use Rattle.smp_values.specs.Values.{AddTo, IsValues, fractional_count, is_fractional, is_settled}
-use Rattle.smp_values.proofs.Designs.{values_lawful, values_keep}
-use Rattle.smp_values.proofs.Fractional.{fractional_is}
+use Rattle.smp_values.proofs.{Designs.{values_lawful, values_keep}, Fractional.{fractional_is}, Near.{IsNear, lone_near}, Sums.{lone_never}}
 use Rattle.smp_values.proofs.LawfulSteps.{lone_lawful, pair_lawful, pair_near, pair_total}
-use Rattle.smp_values.proofs.Near.{IsNear, lone_near}
 use Rattle.smp_values.proofs.Searches.{at_from, going_on, lone_count, parts_found}
-use Rattle.smp_values.proofs.Sums.{lone_never}
 
 module _ (units : ℕ) (s : Shares) (ok : IsValues units (2 ^ 80) s) (going : is_settled s ≡ false) where
   at : IsGoing s (first_of s) (second_of s)

@@ -1,21 +1,13 @@
 -- The shares of a request are values in range, each of them fractional, and each is the probability that is requested.
-use Rattle.std.proofs.Common.{◌≡◌, ℕ, ◌+◌, ◌^◌, ◌<◌, ◌≤◌, length, get_or, arith, refl, sym, ◌∙◌, inl, inr}
-use Rattle.std.proofs.lemmas.Bool.{cases_eq, cases_lt}
-use Rattle.std.proofs.lemmas.List.{get_or_past}
-use Rattle.std.proofs.lemmas.List.FromFn.{get_or-range_with_len}
+use Rattle.std.proofs.{Common.{◌≡◌, ℕ, ◌+◌, ◌^◌, ◌<◌, ◌≤◌, length, get_or, arith, refl, sym, ◌∙◌, inl, inr}, lemmas.List.{get_or_past}}
+use Rattle.std.proofs.{lemmas.Bool.{cases_eq, cases_lt}, lemmas.List.FromFn.{get_or-range_with_len}}
 use Rattle.smp_frac.specs.Fractions.{Same}
 use Rattle.smp_frac.proofs.Arithmetic.{same_trans}
-use Rattle.smp_prob.specs.declared.orders.Order.{Order}
-use Rattle.smp_prob.specs.declared.orders.Order.TheVariants.{Frame, Random}
-use Rattle.smp_prob.specs.declared.requests.Request.{Request}
-use Rattle.smp_prob.specs.Requests.{IsRequest}
-use Rattle.smp_prob.specs.Shares.{Shares, numerators, common_denominator, shares_of}
+use Rattle.smp_prob.specs.{declared.orders.Order.{Order}, declared.orders.Order.TheVariants.{Frame, Random}, Requests.{IsRequest}}
+use Rattle.smp_prob.specs.{declared.requests.Request.{Request}, Shares.{Shares, numerators, common_denominator, shares_of}}
 use Rattle.smp_prob.proofs.Fractions.{denominator_positive, denominator_narrow, length-numerators, numerator_positive, numerator_below, numerator_is_free_fraction, sum-numerators}
-use Rattle.smp_split.specs.Counts.{AddsUp}
-use Rattle.smp_split.specs.Orders.{IsPlacing, IsInOrder, ordered_tree}
-use Rattle.smp_split.specs.Trees.{Tree}
-use Rattle.smp_split.proofs.Orders.{frame_placing, undrawn_placing}
-use Rattle.smp_split.proofs.Sums.{list_adds_up, none_adds_up}
+use Rattle.smp_split.specs.{Counts.{AddsUp}, Orders.{IsPlacing, IsInOrder, ordered_tree}, Trees.{Tree}}
+use Rattle.smp_split.proofs.{Orders.{frame_placing, undrawn_placing}, Sums.{list_adds_up, none_adds_up}}
 use Rattle.smp_values.specs.Starts.{IsRequested, DrawsWhole, first_order, ordered_values}
 use Rattle.smp_values.specs.Values.{AllFractional, IsValues, exchanged_values, value_at}
 use Rattle.smp_values.proofs.Fractional.{is_fractional-between}

@@ -2,16 +2,14 @@
 use Rattle.std.proofs.Common.{◌≡◌, ℕ, ◌+◌, ◌-◌, ◌^◌, ◌<◌, ◌≤◌, ◌≢◌, Bool, true, false, nat_eq, nat_lt, [], ◌∷◌, length, get_or, set, drop, arith, refl, sym, ap, ◌∙◌, subst, inl, inr, get_or-drop, length-drop}
 use Rattle.std.specs.List.{position_or_len}
 use Rattle.std.proofs.lemmas.Bool.{cases_Bool, cases_eq, cases_lt, eq-eqb, ne_eqb, eqb-false, lt-ltb, le-ltb}
-use Rattle.std.proofs.lemmas.List.{get_or-set_other}
-use Rattle.std.proofs.lemmas.List.Sums.{position_or_len_is, fails_before_first, passes_at_first}
+use Rattle.std.proofs.{lemmas.List.{get_or-set_other}, lemmas.List.Sums.{position_or_len_is, fails_before_first, passes_at_first}}
 use Rattle.smp_prob.specs.Shares.{Shares}
 use Rattle.smp_split.specs.Trees.{Part, picked}
 use Rattle.smp_values.specs.Values.{IsValues, exchanged_values, fractional, is_fractional, fractional_count, fractional_units, is_settled, with_one, with_pair}
 use Rattle.smp_values.specs.Steps.{pivotal_parts, pivotal_kind}
 use Rattle.smp_values.specs.Kept.Places.{IsPlaced, IsGoing, OnlyBefore, fractional_from, first_of, second_of, parts_at, kind_at}
-use Rattle.smp_values.proofs.Fractional.{fractional_is}
+use Rattle.smp_values.proofs.{Fractional.{fractional_is}, Designs.{exchanged_within}}
 use Rattle.smp_values.proofs.Units.{units_from, units_from-here, units_from-skip, units_from-end, units_from-start, fractional_units_length, some_fractional}
-use Rattle.smp_values.proofs.Designs.{exchanged_within}
 
 -- no unit before the one that is found is fractional, and that one is
 pub before_from : (s : Shares) (place k : ℕ) → place ≤ k → k < fractional_from s place → fractional s.den (get_or s.numer k 0) ≡ false

@@ -1,14 +1,11 @@
 -- Values that add up to a whole number: one fractional unit alone has none, and the settled ones count the selected units.
 use Rattle.std.proofs.Common.{◌≡◌, ℕ, suc, ◌+◌, ◌*◌, ◌<◌, ◌≤◌, true, false, cond, nat_eq, List, [], ◌∷◌, length, get_or, set, arith, refl, ap, inl, inr}
 use Rattle.std.specs.List.{sum, sum_by, count_by}
-use Rattle.std.proofs.Math.Nat.{mul-le-mul_right}
-use Rattle.std.proofs.lemmas.Bool.{cases_Bool, cases_eq, cases_lt, eq-eqb, ne_eqb}
-use Rattle.std.proofs.lemmas.List.{get_or-set_same, get_or-set_other}
-use Rattle.std.proofs.lemmas.List.Sums.{sum_by-set, sum_by-cons}
+use Rattle.std.proofs.{Math.Nat.{mul-le-mul_right}, lemmas.Bool.{cases_Bool, cases_eq, cases_lt, eq-eqb, ne_eqb}}
+use Rattle.std.proofs.{lemmas.List.{get_or-set_same, get_or-set_other}, lemmas.List.Sums.{sum_by-set, sum_by-cons}}
 use Rattle.smp_prob.specs.Shares.{Shares}
 use Rattle.smp_values.specs.Values.{AddTo, IsValues, fractional, is_fractional, fractional_count}
-use Rattle.smp_values.proofs.Fractional.{fractional_is, not_fractional}
-use Rattle.smp_values.proofs.Units.{fractional_within, only_one}
+use Rattle.smp_values.proofs.{Fractional.{fractional_is, not_fractional}, Units.{fractional_within, only_one}}
 
 -- the sum, apart from the fractional units
 abbrev pub part_of : ℕ → ℕ → ℕ

@@ -1,10 +1,9 @@
 -- The fractional units of values: which they are, and how many.
 use Rattle.std.proofs.Common.{◌≡◌, ◌≢◌, ℕ, zero, suc, ◌+◌, ◌-◌, ◌<◌, ◌≤◌, Bool, true, false, cond, List, [], ◌∷◌, length, get_or, set, take, take_all, refl, sym, ap, ◌∙◌, inl, inr, arith, length-set}
 use Rattle.std.specs.List.{count_by, filter, range_with_len}
-use Rattle.std.proofs.lemmas.Bool.{cases_Bool, cases_eq, cases_lt, both_ways}
+use Rattle.std.proofs.{lemmas.Bool.{cases_Bool, cases_eq, cases_lt, both_ways}, lemmas.List.Filters.{length-filter_more}}
 use Rattle.std.proofs.lemmas.List.{get_or_past, get_or-set_same, get_or-set_other}
 use Rattle.std.proofs.lemmas.List.FromFn.{length-range_with_len, get_or-range_with_len}
-use Rattle.std.proofs.lemmas.List.Filters.{length-filter_more}
 use Rattle.std.proofs.lemmas.List.Sums.{length-filter, sum_by-cons, sum_by-set, get_or-le-sum_by}
 use Rattle.smp_prob.specs.Shares.{Shares}
 use Rattle.smp_split.proofs.Counts.{count_by-indices}

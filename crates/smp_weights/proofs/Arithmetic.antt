@@ -1,21 +1,13 @@
 -- What the arithmetic on fractions in lowest terms answers, and what its results are worth.
 use Rattle.std.proofs.Common.{◌≡◌, ℕ, zero, suc, ◌*◌, ◌^◌, ◌<◌, ◌≤◌, Bool, true, false, ℤ, pos, negsuc, neg_ℤ, ◌*ℤ◌, Result, Ok, Err, IfOk, OnOk, OnErr, nat_lt, arith, refl, sym, ap, subst, inl, inr}
-use Rattle.std.proofs.Props.{props}
-use Rattle.std.proofs.lemmas.Bool.{cases_Bool, lt-ltb, le-ltb}
-use Rattle.std.proofs.lemmas.Int.{ints}
-use Rattle.std.proofs.lemmas.Result.{IfOk-weaker}
+use Rattle.std.proofs.{Props.{props}, lemmas.Bool.{cases_Bool, lt-ltb, le-ltb}, lemmas.Int.{ints}, lemmas.Result.{IfOk-weaker}}
 use Rattle.std.specs.Prelude.{if◌then◌else◌}
-use Rattle.smp_frac.specs.Fractions.{Fraction, Same, plus, minus, times, positive_product}
-use Rattle.smp_frac.specs.declared.fractions.Frac.{Frac}
-use Rattle.smp_frac.specs.declared.fractions.Wide.{Wide}
-use Rattle.smp_frac.specs.declared.signed.Signed.{Signed}
-use Rattle.smp_frac.specs.Exact.{fraction, signed_fraction, product_size, sum_size, difference_size}
-use Rattle.smp_frac.specs.Laws.Gcds.{IsGcd-greatest_common_divisor}
-use Rattle.smp_frac.specs.Laws.Lowest.{same_value}
+use Rattle.smp_frac.specs.{Fractions.{Fraction, Same, plus, minus, times, positive_product}, declared.fractions.Frac.{Frac}}
+use Rattle.smp_frac.specs.{declared.fractions.Wide.{Wide}, declared.signed.Signed.{Signed}, Laws.Gcds.{IsGcd-greatest_common_divisor}}
+use Rattle.smp_frac.specs.{Exact.{fraction, signed_fraction, product_size, sum_size, difference_size}, Laws.Lowest.{same_value}}
 use Rattle.smp_frac.specs.LowestTerms.{lowest_terms}
 use Rattle.smp_frac.proofs.LowestTerms.{lowest_terms-value, same-lowest_terms}
-use Rattle.smp_weights.specs.Arithmetic.{signed_lowest_terms, within_limit, product_of, sum_of, difference_of}
-use Rattle.smp_weights.specs.Signs.{not_negative}
+use Rattle.smp_weights.specs.{Arithmetic.{signed_lowest_terms, within_limit, product_of, sum_of, difference_of}, Signs.{not_negative}}
 
 abbrev ratio : (z : ℤ) (d : ℕ) → 1 ≤ d → Fraction
 ratio z d some = record { num = z; den = d; positive = some }

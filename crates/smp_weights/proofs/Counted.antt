@@ -2,8 +2,7 @@
 use Rattle.std.proofs.Common.{◌≡◌, ℕ, ◌+◌, ◌<◌, Bool, true, false, List, ◌∷◌, length, drop, filter, get_or, ℤ, pos, refl, arith, inl, inr}
 use Rattle.std.proofs.lemmas.Bool.{cases_Bool}
 use Rattle.smp_frac.specs.declared.fractions.Frac.{Frac}
-use Rattle.smp_weights.specs.Chosen.{Chosen, chosen_units}
-use Rattle.smp_weights.specs.Totals.{has_sign, zero}
+use Rattle.smp_weights.specs.{Chosen.{Chosen, chosen_units}, Totals.{has_sign, zero}}
 use Rattle.smp_weights.proofs.Chosen.{chosen_units-taken, chosen_units-skipped}
 
 module _ (minus : Bool) (values : List ℤ) (asked : List Frac) (chosen : List Bool) (i : ℕ) (within : i < length values) (same : length asked ≡ length values) (alike : length chosen ≡ length values) where

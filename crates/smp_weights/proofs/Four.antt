@@ -1,10 +1,8 @@
 -- The sample of the worked draw, by computing: c with the probability 6/10 and d with 8/10.
-use Rattle.std.specs.Prelude.{◌≡◌, [], ◌∷◌, codes}
+use Rattle.std.specs.{Prelude.{◌≡◌, [], ◌∷◌, codes}, Fmt.{digits}}
 use Rattle.std.proofs.Common.{refl}
-use Rattle.std.specs.Fmt.{digits}
 use Rattle.csv.specs.Writing.{fields_text, is_blank}
-use Rattle.smp_frac.specs.Fractions.{over}
-use Rattle.smp_frac.specs.Divisors.{greatest_common_divisor}
+use Rattle.smp_frac.specs.{Fractions.{over}, Divisors.{greatest_common_divisor}}
 use Rattle.smp_weights.specs.Sample.{sample_file, sample_row}
 
 pub row_of_c : sample_row (codes "c") (over 6 10) ≡ codes "c,5/3\n"

@@ -1,11 +1,7 @@
 -- The steps of an estimate, up to the first that is too wide.
 use Rattle.std.proofs.Common.{◌≡◌, List, ℤ, Result, Ok, Err, IsErr, refl, ap, ◌∙◌}
-use Rattle.smp_frac.specs.declared.fractions.Frac.{Frac}
-use Rattle.smp_frac.specs.declared.fractions.Wide.{Wide}
-use Rattle.smp_frac.specs.declared.signed.Signed.{Signed}
-use Rattle.smp_weights.specs.Arithmetic.{sum_of, difference_of}
-use Rattle.smp_weights.specs.Chosen.{Chosen}
-use Rattle.smp_frac.specs.Faults.{◌>>=◌}
+use Rattle.smp_frac.specs.{declared.fractions.Frac.{Frac}, declared.fractions.Wide.{Wide}, declared.signed.Signed.{Signed}, Faults.{◌>>=◌}}
+use Rattle.smp_weights.specs.{Arithmetic.{sum_of, difference_of}, Chosen.{Chosen}}
 use Rattle.smp_weights.specs.Totals.{term_of, with_term, total_of, gains, losses, estimate_of}
 
 -- any `Wide` is the same

@@ -1,22 +1,14 @@
 -- What a total is worth, by the laws of fractions.
 use Rattle.std.proofs.Common.{◌≡◌, zero, suc, true, false, List, [], ◌∷◌, ℤ, pos, negsuc, Result, Ok, Err, IfOk, arith}
-use Rattle.std.proofs.lemmas.Bool.Decides.{nat_tests}
-use Rattle.std.proofs.lemmas.Result.{IfOk-weaker}
-use Rattle.std.specs.Prelude.{unsigned_abs}
-use Rattle.std.specs.Int.{is_negative, is_positive}
-use Rattle.smp_frac.specs.declared.fractions.Frac.{Frac}
-use Rattle.smp_frac.specs.declared.fractions.Wide.{Wide}
-use Rattle.smp_frac.specs.declared.signed.Signed.{Signed}
-use Rattle.smp_frac.specs.Exact.{fraction, signed_fraction}
-use Rattle.smp_frac.specs.Fractions.{Fraction, Same, whole, integer, negated, plus, times}
+use Rattle.std.proofs.{lemmas.Bool.Decides.{nat_tests}, lemmas.Result.{IfOk-weaker}}
+use Rattle.std.specs.{Prelude.{unsigned_abs}, Int.{is_negative, is_positive}}
+use Rattle.smp_frac.specs.{declared.fractions.Frac.{Frac}, declared.fractions.Wide.{Wide}, declared.signed.Signed.{Signed}, Faults.{◌>>=◌}}
+use Rattle.smp_frac.specs.{Exact.{fraction, signed_fraction}, Fractions.{Fraction, Same, whole, integer, negated, plus, times}}
 use Rattle.smp_frac.proofs.Arithmetic.{same_refl, same_sym, same_trans, plus_same, times_same, plus_swap, plus_assoc, plus_left_comm, plus_negated, plus_cancel, plus_minus, plus-zero, zero-plus, zero-times, zero-plus-zero}
 use Rattle.smp_frac.specs.LowestTerms.{lowest_terms}
-use Rattle.smp_weights.specs.Arithmetic.{sum_of, difference_of}
-use Rattle.smp_weights.specs.Chosen.{Chosen, weight}
+use Rattle.smp_weights.specs.{Arithmetic.{sum_of, difference_of}, Chosen.{Chosen, weight}, Values.{weighted_total}}
 use Rattle.smp_weights.specs.Totals as Totals
-use Rattle.smp_frac.specs.Faults.{◌>>=◌}
 use Rattle.smp_weights.specs.Totals.{term_of, with_term, with_terms, total_of, gains, losses, estimate_of}
-use Rattle.smp_weights.specs.Values.{weighted_total}
 use Rattle.smp_frac.proofs.LowestTerms.{lowest_terms-value}
 use Rattle.smp_weights.proofs.Arithmetic.{product_value, sum_value, difference_value}
 

@@ -1,13 +1,10 @@
 -- What is known of a command that the words give: its files have names of their own, and its numbers lie in their ranges.
 use Rattle.std.proofs.Common.{◌≡◌, ℕ, ◌≤◌, Bool, true, false, List, [], ◌∷◌, Option, Some, None, refl, nat_le, ◌&&◌, ◌^◌, codes}
-use Rattle.std.specs.Prelude.{if◌then◌else◌, option_map, IfSome}
-use Rattle.std.specs.Str.{bytes_eq}
+use Rattle.std.specs.{Prelude.{if◌then◌else◌, option_map, IfSome}, Str.{bytes_eq}}
 use Rattle.std.proofs.lemmas.Bool.{and_parts, leb-true}
-use Rattle.smp_frac.specs.Decimals.{number_below}
-use Rattle.smp_words.specs.declared.command.DesignArguments.{DesignArguments}
-use Rattle.smp_words.specs.declared.command.Command.TheVariants.{Probs, Check, Joint}
+use Rattle.smp_frac.specs.{Decimals.{number_below}, Limits.{most_rows}}
+use Rattle.smp_words.specs.{declared.command.DesignArguments.{DesignArguments}, declared.command.Command.TheVariants.{Probs, Check, Joint}}
 use Rattle.smp_words.specs.declared.command.Chance.TheVariants.{Seed}
-use Rattle.smp_frac.specs.Limits.{most_rows}
 use Rattle.smp_words.specs.Words.{Given, LogFiles, IsAsked, ◌>>=◌, when, in_range, number_from, all_distinct, is_empty, has_only, options_for, seed_from, have_own_names, least_demo_units, most_demo_units, stratum_from, draw_command, migrate_command, replay_command, quick_words, demo_words, design_arguments, log_files, own_log_files, draw_by, draw, replay, migrate, by_name, command_given}
 
 -- ---- what holds of something that may not be there

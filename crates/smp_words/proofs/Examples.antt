@@ -2,8 +2,7 @@
 use Rattle.std.proofs.Common.{◌≡◌, ℕ, List, [], ◌∷◌, Option, Some, None, option_map, refl, codes}
 use Rattle.clap.specs.Words.{first_of, all_of}
 use Rattle.clap.proofs.OnLiterals.{clap_on_literals}
-use Rattle.smp_words.specs.declared.command.Command.TheVariants.{Replay, Migrate}
-use Rattle.smp_words.specs.CommandLine.{words_of}
+use Rattle.smp_words.specs.{declared.command.Command.TheVariants.{Replay, Migrate}, CommandLine.{words_of}}
 use Rattle.smp_words.specs.Words.{command_given, command_of}
 
 abbrev Seen : Type 0

@@ -1,7 +1,6 @@
 -- A refusal has a fault.
 use Rattle.std.proofs.Common.{◌≡◌, ◌⊎◌, ℕ, List, [], ◌∷◌, Some, None, inl, inr, refl, ap, sym, ◌∙◌}
-use Rattle.clap.specs.Words.{Row, Kinds, IsAmong, fault_of, matches_of}
-use Rattle.clap.specs.declared.error.kind.ErrorKind.{ErrorKind}
+use Rattle.clap.specs.{Words.{Row, Kinds, IsAmong, fault_of, matches_of}, declared.error.kind.ErrorKind.{ErrorKind}}
 use Rattle.smp_words.specs.CommandLine.{sampler_app, without_fault, words_of}
 
 among : (k : ErrorKind) (kinds : Kinds) (rows : List Row) → IsAmong k kinds → None ≡ without_fault kinds rows

@@ -1,13 +1,8 @@
-use Rattle.std.proofs.Common.{◌≡◌, false, [], Some, Err, ap, refl}
-use Rattle.std.proofs.lemmas.Slice.Eq.{slice_eq-Decides}
-use Rattle.std.proofs.lemmas.Bool.{both_ways}
+use Rattle.std.proofs.{Common.{◌≡◌, false, [], Some, Err, ap, refl}, lemmas.Slice.Eq.{slice_eq-Decides}, lemmas.Bool.{both_ways}}
 use Rattle.std.proofs.lemmas.Bool.Decides.{Decides-eqb}
 use Rattle.std.specs.Bool.{Decides}
-use Rattle.smp_split.specs.Counts.{selected_units}
-use Rattle.smp_split.specs.Paths.{values_of}
-use Rattle.smp_tape.specs.Tapes.{tape_of_values}
-use Rattle.smp_tape.specs.TapeSources.{tape_source}
-use Rattle.smp_split.specs.Runs.{Arrived, Refused, position}
+use Rattle.smp_split.specs.{Counts.{selected_units}, Paths.{values_of}, Runs.{Arrived, Refused, position}}
+use Rattle.smp_tape.specs.{Tapes.{tape_of_values}, TapeSources.{tape_source}}
 use Rattle.method_tests.proofs.Tapes.{arrived_leaf, entry_decides, leaf_at, never_stopped, walk_is, walk_told}
 use Rattle.method_tests.proofs.walking.walks.Goals.{then-told, else-told}
 use Rattle.method_tests.proofs.walking.walks.Goals as goal

@@ -1,6 +1,5 @@
-use Rattle.std.proofs.Common.{◌≡◌, ◌<◌, length, slice_index, arith, sym}
+use Rattle.std.proofs.{Common.{◌≡◌, ◌<◌, length, slice_index, arith, sym}, lemmas.List.FromFn.{length-range_with_len}}
 use Rattle.std.specs.List.{range_with_len}
-use Rattle.std.proofs.lemmas.List.FromFn.{length-range_with_len}
 use Rattle.narrow_cases.proofs.answers.is_request.Goals as goal
 
 pub returns : goal.returns

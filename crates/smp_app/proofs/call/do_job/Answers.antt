@@ -1,7 +1,6 @@
 use Rattle.std.proofs.Common.{Err, inr, refl, ap}
 use Rattle.smp_status.specs.declared.status.Status.TheVariants.{Done}
-use Rattle.smp_app.specs.Deliveries.{outputs_view}
-use Rattle.smp_app.specs.Kept.Stages.{job_view}
+use Rattle.smp_app.specs.{Deliveries.{outputs_view}, Kept.Stages.{job_view}}
 use Rattle.smp_app.proofs.Ends.{error_says, all_done, exact_done, exact_error, stopped_by}
 use Rattle.smp_app.proofs.call.do_job.Goals as goal
 

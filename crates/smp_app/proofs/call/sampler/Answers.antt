@@ -1,5 +1,4 @@
-use Rattle.smp_app.proofs.Ends.{exact_says, says, is_answer}
-use Rattle.smp_app.proofs.Headline.{headline}
+use Rattle.smp_app.proofs.{Ends.{exact_says, says, is_answer}, Headline.{headline}}
 use Rattle.smp_app.proofs.call.sampler.Goals as goal
 
 pub returns-clause-headline : goal.returns-clause-headline

@@ -1,6 +1,5 @@
 use Rattle.std.proofs.Common.{[], ◌∷◌}
-use Rattle.smp_plan.proofs.Designs.{quick_is_design}
-use Rattle.smp_plan.proofs.Names.{first_distinct}
+use Rattle.smp_plan.proofs.{Designs.{quick_is_design}, Names.{first_distinct}}
 use Rattle.smp_app.proofs.job.quick_job.Goals as goal
 
 pub returns-clause-is_job : goal.returns-clause-is_job

@@ -1,6 +1,5 @@
 use Rattle.std.proofs.Common.{◌≡◌, List, subst, sym}
-use Rattle.smp_split.specs.Paths.{Entry}
-use Rattle.smp_split.specs.Trees.{Tree}
+use Rattle.smp_split.specs.{Paths.{Entry}, Trees.{Tree}}
 use Rattle.smp_log.specs.Genuine.{IsFullPath}
 use Rattle.smp_app.proofs.Selections.{on_more}
 use Rattle.smp_app.proofs.selection.replay_taken.Goals as goal

@@ -1,9 +1,7 @@
 use Rattle.std.proofs.Common.{rules}
 use Rattle.smp_app.specs.Kept.Stages.{DiffersTaken, drawn_by_taken, only_of, selection_view}
-use Rattle.smp_plan.specs.Planned.{plan_view}
-use Rattle.smp_plan.specs.Reads.{Follows, result_view}
-use Rattle.smp_app.proofs.Refusals.{if_line, taken_differs}
-use Rattle.smp_app.proofs.Selections.{has_parts, start_belongs}
+use Rattle.smp_plan.specs.{Planned.{plan_view}, Reads.{Follows, result_view}}
+use Rattle.smp_app.proofs.{Refusals.{if_line, taken_differs}, Selections.{has_parts, start_belongs}}
 use Rattle.smp_app.proofs.selection.select_by_log.Goals as goal
 
 pub started_for-requires-clause-only : goal.started_for-requires-clause-only

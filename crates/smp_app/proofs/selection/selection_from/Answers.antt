@@ -1,8 +1,6 @@
 use Rattle.std.proofs.Common.{ℕ, ◌-◌, rules, subst}
 use Rattle.std.specs.Prelude.{IfErr}
-use Rattle.smp_app.specs.Draws.{OldDiffers, StratumDiffers, WholeDiffers}
-use Rattle.smp_app.specs.Kept.Exact.{IfLine}
-use Rattle.smp_app.specs.Kept.Stages.{draw_view}
+use Rattle.smp_app.specs.{Draws.{OldDiffers, StratumDiffers, WholeDiffers}, Kept.Exact.{IfLine}, Kept.Stages.{draw_view}}
 use Rattle.smp_plan.specs.Planned.{plan_view}
 use Rattle.smp_app.proofs.Refusals.{in_file, stratum_is, unread}
 use Rattle.smp_app.proofs.selection.selection_from.Goals as goal

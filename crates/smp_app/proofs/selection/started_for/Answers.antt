@@ -1,8 +1,7 @@
 use Rattle.std.proofs.Common.{◌≡◌, ℕ, Option, Some, None, Result, Ok, Err}
 use Rattle.std.specs.Prelude.{IfOk}
 use Rattle.smp_strata.specs.Plans.{Plan}
-use Rattle.smp_twostage.specs.Selections.{covered_start}
-use Rattle.smp_twostage.specs.declared.whole.StartedWhole.{StartedWhole}
+use Rattle.smp_twostage.specs.{Selections.{covered_start}, declared.whole.StartedWhole.{StartedWhole}}
 use Rattle.smp_app.specs.Kept.Stages.{IsStart, StartsOf}
 use Rattle.smp_app.proofs.selection.started_for.Goals as goal
 

@@ -1,10 +1,8 @@
 use Rattle.std.proofs.Common.{Result, IfOk, OnOk, sym, subst}
-use Rattle.smp_log.specs.Genuine.{IsFullPath}
-use Rattle.smp_log.specs.SectionLogs.{ArePlaced, steps_of}
+use Rattle.smp_log.specs.{Genuine.{IsFullPath}, SectionLogs.{ArePlaced, steps_of}}
 use Rattle.smp_log.proofs.Placed.{none_placed}
 use Rattle.smp_twostage.specs.Selections.{covered_tree, strata_sections}
-use Rattle.smp_app.specs.declared.selection.Stopped.{Stopped}
-use Rattle.smp_app.specs.Kept.Stages.{EndsAsTold, IsWalked, Lines, drawn_by_taken, only_of, path_by}
+use Rattle.smp_app.specs.{declared.selection.Stopped.{Stopped}, Kept.Stages.{EndsAsTold, IsWalked, Lines, drawn_by_taken, only_of, path_by}}
 use Rattle.smp_plan.specs.Planned.{plan_view}
 use Rattle.smp_app.proofs.Selections.{belongs, ends_told, has_parts, is_one, lines_so, on_both, on_more, taken_stage, taken_walked, told_holds, told_is}
 use Rattle.smp_app.proofs.selection.walk_by_log.Goals as goal

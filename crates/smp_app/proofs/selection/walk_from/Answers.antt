@@ -1,13 +1,10 @@
 use Rattle.std.proofs.Common.{◌≡◌, Err, None, ap, sym, subst}
 use Rattle.smp_tape.specs.declared.draws.DrawFault.{DrawFault}
 use Rattle.smp_log.specs.SectionLogs.{steps_of}
-use Rattle.smp_log.proofs.Paths.{run_full_path}
-use Rattle.smp_log.proofs.Placed.{none_placed}
+use Rattle.smp_log.proofs.{Paths.{run_full_path}, Placed.{none_placed}}
 use Rattle.smp_split.specs.Runs.{run}
-use Rattle.smp_twostage.specs.Selections.{BelongsToCovered, covered_tree, strata_sections}
-use Rattle.smp_twostage.specs.Laws.Wholes.{covered_lawful}
-use Rattle.smp_app.specs.Drawn.{tree_of, start_of}
-use Rattle.smp_app.specs.Kept.Stages.{RefusedAt}
+use Rattle.smp_twostage.specs.{Selections.{BelongsToCovered, covered_tree, strata_sections}, Laws.Wholes.{covered_lawful}}
+use Rattle.smp_app.specs.{Drawn.{tree_of, start_of}, Kept.Stages.{RefusedAt}}
 use Rattle.smp_plan.specs.Planned.{plan_view}
 use Rattle.smp_app.proofs.Selections.{belongs, told_is, tree_is, start_is, stop_is, ends_at_leaf, ends_refused, lines_so, walked_all}
 use Rattle.smp_app.proofs.selection.walk_from.Goals as goal

@@ -1,5 +1,4 @@
-use Rattle.std.proofs.Common.{◌≡◌, length, map, ap, sym, ◌∙◌}
-use Rattle.std.proofs.lemmas.List.{length-map}
+use Rattle.std.proofs.{Common.{◌≡◌, length, map, ap, sym, ◌∙◌}, lemmas.List.{length-map}}
 use Rattle.smp_frame.specs.declared.frame.Unit as unit
 use Rattle.smp_strata.specs.Plans.{Plan}
 use Rattle.smp_app.proofs.texts.joints_text.Goals as goal

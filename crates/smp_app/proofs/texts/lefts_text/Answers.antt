@@ -1,14 +1,9 @@
 use Rattle.std.proofs.Common.{◌≡◌, ℕ, ◌<◌, ◌≤◌, ◌++◌, true, false, length, arith, sym, ap, ◌∙◌, codes}
-use Rattle.std.specs.Prelude.{string_bytes}
-use Rattle.std.specs.Fmt.{decimal}
+use Rattle.std.specs.{Prelude.{string_bytes}, Fmt.{decimal}}
 use Rattle.smp_strata.specs.Plans.{Plan}
-use Rattle.smp_twostage.specs.Covered.{covered_left}
-use Rattle.smp_twostage.specs.Selections.{Coverage, covers}
-use Rattle.smp_app.specs.Drawn.{covered}
-use Rattle.smp_plan.specs.Plans.{survey_plan}
-use Rattle.smp_plan.specs.Planned.{plan_view}
-use Rattle.smp_app.specs.Kept.Stages.{selection_view}
-use Rattle.smp_app.specs.Texts.{left_text, lefts_text}
+use Rattle.smp_twostage.specs.{Covered.{covered_left}, Selections.{Coverage, covers}}
+use Rattle.smp_app.specs.{Drawn.{covered}, Kept.Stages.{selection_view}, Texts.{left_text, lefts_text}}
+use Rattle.smp_plan.specs.{Plans.{survey_plan}, Planned.{plan_view}}
 use Rattle.smp_twostage.proofs.Numbers.{line_more, line_passed, lines_all}
 use Rattle.smp_app.proofs.texts.lefts_text.Goals.{then-covers+in_ok-push_left, else-covers}
 use Rattle.smp_app.proofs.texts.lefts_text.Goals as goal

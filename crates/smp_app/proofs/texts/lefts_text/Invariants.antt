@@ -1,11 +1,8 @@
 use Rattle.std.proofs.Common.{◌≡◌, ◌++◌, length}
 use Rattle.std.specs.Prelude.{string_bytes}
 use Rattle.smp_twostage.specs.Selections.{covers}
-use Rattle.smp_app.specs.Drawn.{covered}
-use Rattle.smp_plan.specs.Plans.{survey_plan}
-use Rattle.smp_plan.specs.Planned.{plan_view}
-use Rattle.smp_app.specs.Kept.Stages.{selection_view}
-use Rattle.smp_app.specs.Texts.{left_text, lefts_text}
+use Rattle.smp_app.specs.{Drawn.{covered}, Kept.Stages.{selection_view}, Texts.{left_text, lefts_text}}
+use Rattle.smp_plan.specs.{Plans.{survey_plan}, Planned.{plan_view}}
 use Rattle.smp_twostage.proofs.Numbers.{lines_from}
 use Rattle.smp_app.proofs.texts.lefts_text.Given as goal
 

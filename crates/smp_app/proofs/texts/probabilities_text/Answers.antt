@@ -4,9 +4,8 @@ use Rattle.std.proofs.lemmas.List.FromFn.{get_or-range_with_len, length-range_wi
 use Rattle.smp_frac.specs.Exact.{fraction, fraction_text}
 use Rattle.smp_frame.specs.declared.frame.Unit as unit
 use Rattle.smp_weights.specs.Rows.{row}
-use Rattle.smp_plan.specs.Planned.{plan_view}
+use Rattle.smp_plan.specs.{Planned.{plan_view}, Plans.{row_id}}
 use Rattle.smp_app.specs.Texts.{probability_row}
-use Rattle.smp_plan.specs.Plans.{row_id}
 use Rattle.smp_joint.proofs.RowTexts.{next_row}
 use Rattle.smp_app.proofs.Written.{rows_written, id_is, probability_text}
 use Rattle.smp_app.proofs.texts.probabilities_text.Goals as goal

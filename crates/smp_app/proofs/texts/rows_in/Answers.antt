@@ -1,8 +1,6 @@
-use Rattle.std.proofs.Common.{◌<◌, true, false, length, arith, sym, ◌∙◌}
-use Rattle.std.proofs.lemmas.Bool.{eq-eqb, ne_eqb}
+use Rattle.std.proofs.{Common.{◌<◌, true, false, length, arith, sym, ◌∙◌}, lemmas.Bool.{eq-eqb, ne_eqb}}
 use Rattle.smp_twostage.specs.Selections.{is_of_section}
-use Rattle.smp_plan.specs.Plans.{survey_plan}
-use Rattle.smp_plan.specs.Planned.{plan_view}
+use Rattle.smp_plan.specs.{Plans.{survey_plan}, Planned.{plan_view}}
 use Rattle.smp_app.proofs.Written.{count_from, stands_in_all, stands_in_its}
 use Rattle.smp_app.proofs.texts.rows_in.Goals.{then-draws_together, then-draws_together-via-then-draws_together, then-draws_together-via-else-draws_together+then-seat-stratum, else-draws_together+else-seat-stratum}
 use Rattle.smp_app.proofs.texts.rows_in.Goals as goal

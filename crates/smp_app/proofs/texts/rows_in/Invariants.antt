@@ -1,9 +1,8 @@
 use Rattle.std.proofs.Common.{◌≡◌, ◌+◌, ◌-◌, ◌≤◌, Some}
 use Rattle.std.specs.List.{count_by, range_with_len}
 use Rattle.smp_twostage.specs.Selections.{is_of_section}
-use Rattle.smp_plan.specs.Plans.{survey_plan}
+use Rattle.smp_plan.specs.{Plans.{survey_plan}, Planned.{plan_view}}
 use Rattle.smp_app.specs.Drawn.{rows_by}
-use Rattle.smp_plan.specs.Planned.{plan_view}
 use Rattle.smp_app.proofs.texts.rows_in.Given as goal
 
 -- the rows so far, and those among the others

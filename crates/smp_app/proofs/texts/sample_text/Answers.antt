@@ -1,5 +1,4 @@
-use Rattle.std.proofs.Common.{◌≡◌, ◌≤◌, length, map, ap, arith, rules, sym, ◌∙◌}
-use Rattle.std.proofs.lemmas.List.{get_or-map, length-map}
+use Rattle.std.proofs.{Common.{◌≡◌, ◌≤◌, length, map, ap, arith, rules, sym, ◌∙◌}, lemmas.List.{get_or-map, length-map}}
 use Rattle.smp_frac.specs.Exact.{fraction}
 use Rattle.smp_frame.specs.declared.frame.Unit as unit
 use Rattle.smp_strata.specs.Plans.{Plan}

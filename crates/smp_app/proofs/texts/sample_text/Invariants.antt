@@ -2,8 +2,7 @@ use Rattle.std.proofs.Common.{◌≡◌, ◌++◌, drop, map, Some, option_map}
 use Rattle.std.specs.List.{flat_map}
 use Rattle.smp_weights.specs.Sample.{sample_row_of}
 use Rattle.smp_plan.specs.Planned.{plan_view}
-use Rattle.smp_app.specs.Kept.Stages.{selection_view}
-use Rattle.smp_app.specs.Texts.{weighted_row, sample_text}
+use Rattle.smp_app.specs.{Kept.Stages.{selection_view}, Texts.{weighted_row, sample_text}}
 use Rattle.smp_app.proofs.texts.sample_text.Given as goal
 
 abbrev pub invariant-loop-row : goal.invariant-loop-row

@@ -1,6 +1,5 @@
 use Rattle.std.proofs.Common.{◌≡◌, ◌++◌, drop, map}
-use Rattle.smp_app.specs.Commands.{written_by}
-use Rattle.smp_app.specs.Kept.Stages.{file_view, selection_view}
+use Rattle.smp_app.specs.{Commands.{written_by}, Kept.Stages.{file_view, selection_view}}
 use Rattle.smp_plan.specs.Planned.{plan_view}
 use Rattle.smp_app.proofs.work.drawn_outputs.Given as goal
 

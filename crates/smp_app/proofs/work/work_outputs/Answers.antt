@@ -1,15 +1,10 @@
-use Rattle.std.proofs.Common.{◌≡◌, ℕ, List, map, Ok, Err, [], ap, subst, ◌∙◌, rules}
-use Rattle.std.proofs.lemmas.List.{append-nil}
+use Rattle.std.proofs.{Common.{◌≡◌, ℕ, List, map, Ok, Err, [], ap, subst, ◌∙◌, rules}, lemmas.List.{append-nil}}
 use Rattle.smp_status.specs.declared.status.Status.TheVariants.{NoMemory}
-use Rattle.smp_app.specs.Commands.{source_names, Draws, outputs_by}
-use Rattle.smp_app.specs.Verdict.{work_stage, drawn_stage}
-use Rattle.smp_app.specs.Deliveries.{Outputs, names_of}
-use Rattle.smp_plan.specs.Reads.{Reads, told}
+use Rattle.smp_app.specs.{Commands.{source_names, Draws, outputs_by}, Verdict.{work_stage, drawn_stage}, Deliveries.{Outputs, names_of}}
+use Rattle.smp_plan.specs.{Reads.{Reads, told}, Planned.{plan_view}}
 use Rattle.smp_app.specs.Kept.Stages.{draw_view, drawn_text, file_view, selection_view}
-use Rattle.smp_plan.specs.Planned.{plan_view}
 use Rattle.smp_plan.proofs.Steps.{read_for, stops}
-use Rattle.smp_app.proofs.Selections.{is_listed}
-use Rattle.smp_app.proofs.Stages.{names_written}
+use Rattle.smp_app.proofs.{Selections.{is_listed}, Stages.{names_written}}
 use Rattle.smp_app.proofs.work.work_outputs.Goals as goal
 
 pub returns-in_err-selection-in-Draws-clause-reads : goal.returns-in_err-selection-in-Draws-clause-reads

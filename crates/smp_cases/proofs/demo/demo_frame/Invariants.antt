@@ -1,6 +1,5 @@
 use Rattle.std.proofs.Common.{◌≡◌, ◌++◌, ◌*◌, ◌+◌, ◌-◌}
-use Rattle.std.specs.Prelude.{string_bytes}
-use Rattle.std.specs.List.{flat_map, range_with_len}
+use Rattle.std.specs.{Prelude.{string_bytes}, List.{flat_map, range_with_len}}
 use Rattle.smp_cases.specs.Demo.{demo_frame_text, demo_row, state_after}
 use Rattle.smp_cases.proofs.demo.demo_frame.Given as goal
 

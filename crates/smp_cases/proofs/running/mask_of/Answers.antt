@@ -1,9 +1,7 @@
-use Rattle.std.proofs.Common.{◌≡◌, ◌<◌, ◌+◌, ◌^◌, arith, ap, ◌∙◌}
-use Rattle.std.proofs.lemmas.Nat.{one_shl}
+use Rattle.std.proofs.{Common.{◌≡◌, ◌<◌, ◌+◌, ◌^◌, arith, ap, ◌∙◌}, lemmas.Nat.{one_shl}}
 use Rattle.smp_cases.specs.Cases.{mask}
 use Rattle.smp_split.specs.Counts.{selected_units}
-use Rattle.smp_cases.proofs.Masks.{bits_with, bits_without, mask_with, mask_without}
-use Rattle.smp_cases.proofs.running.mask_of.Goals.{then-selected, else-selected}
+use Rattle.smp_cases.proofs.{Masks.{bits_with, bits_without, mask_with, mask_without}, running.mask_of.Goals.{then-selected, else-selected}}
 use Rattle.smp_cases.proofs.running.mask_of.Goals as goal
 
 pub loop-unit-preserved : goal.loop-unit-preserved

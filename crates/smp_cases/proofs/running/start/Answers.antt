@@ -1,6 +1,5 @@
 use Rattle.smp_design.proofs.Rows.{bare_unless_needed}
-use Rattle.smp_methods.proofs.Columns.{takes_none}
-use Rattle.smp_methods.proofs.Wholes.{needs_whole}
+use Rattle.smp_methods.proofs.{Columns.{takes_none}, Wholes.{needs_whole}}
 use Rattle.smp_cases.proofs.running.start.Goals as goal
 
 pub new-requires-clause-whole : goal.new-requires-clause-whole

@@ -1,5 +1,4 @@
-use Rattle.std.proofs.Common.{sym, ◌∙◌}
-use Rattle.std.proofs.lemmas.Bool.{false≢true}
+use Rattle.std.proofs.{Common.{sym, ◌∙◌}, lemmas.Bool.{false≢true}}
 use Rattle.smp_design.proofs.Documents.{is_document, no_document}
 use Rattle.smp_design.proofs.reading.document.Goals as goal
 

@@ -1,9 +1,8 @@
-use Rattle.std.proofs.Common.{arith, append-nil, [], ◌≡◌, ◌++◌, option_map, ap, sym, ◌∙◌, string_bytes, Some}
+use Rattle.std.proofs.{Common.{arith, append-nil, [], ◌≡◌, ◌++◌, option_map, ap, sym, ◌∙◌, string_bytes, Some}, lemmas.Grind.{common_steps}}
 use Rattle.toml.specs.View.{view, members_view}
 use Rattle.toml.proofs.Views.{Entry}
 use Rattle.smp_design.specs.Values.{number, quotas_of}
 use Rattle.smp_design.proofs.QuotasOf.{quotas_of-more, quotas_ascend}
-use Rattle.std.proofs.lemmas.Grind.{common_steps}
 use Rattle.smp_design.proofs.values.quotas_of.Goals as goal
 
 pub loop-stratum-preserved : goal.loop-stratum-preserved

@@ -2,9 +2,8 @@ use Rattle.std.proofs.Common.{◌≡◌, ◌≤◌, ◌+◌, ◌-◌, ℕ, drop,
 use Rattle.std.specs.Prelude.{sum}
 use Rattle.smp_prob.specs.Requested.{certain_units, positive_units}
 use Rattle.smp_elim.proofs.Cutting.{IsTurn, enough_of, is_turn, rest_more, rest_within, goes_down, stays_here}
-use Rattle.smp_elim.proofs.Orders.{falling, fewer_certain, left_at, rest_at}
+use Rattle.smp_elim.proofs.{Orders.{falling, fewer_certain, left_at, rest_at}, cuts.cut_below.Goals.{In-loop-count}}
 use Rattle.smp_elim.proofs.cuts.cut_below.Goals as goal
-use Rattle.smp_elim.proofs.cuts.cut_below.Goals.{In-loop-count}
 
 -- what is known of the unit before the place
 turn : (c : In-loop-count) → IsTurn c.args.sizes.now c.args.order.now c.args.draws c.loop-count.count

@@ -1,12 +1,9 @@
-use Rattle.std.proofs.Common.{◌≡◌, ◌-◌, ◌*◌, ℕ, length, get_or, length-set, arith, rules, refl, ◌∙◌, inl, inr}
-use Rattle.std.proofs.lemmas.Bool.{cases_Bool}
+use Rattle.std.proofs.{Common.{◌≡◌, ◌-◌, ◌*◌, ℕ, length, get_or, length-set, arith, rules, refl, ◌∙◌, inl, inr}, lemmas.Bool.{cases_Bool}}
 use Rattle.smp_prob.specs.Requested.{is_certain}
 use Rattle.smp_prob.proofs.Certain.{certain_within}
 use Rattle.smp_split.proofs.Units.{sum_by-without}
 use Rattle.smp_elim.specs.Kept.Weights.{fresh_amount}
-use Rattle.smp_elim.proofs.Cutting.{enough_of}
-use Rattle.smp_elim.proofs.Expecting.{is_due, sum_most, past_more, most_more}
-use Rattle.smp_elim.proofs.Orders.{stands_between}
+use Rattle.smp_elim.proofs.{Cutting.{enough_of}, Expecting.{is_due, sum_most, past_more, most_more}, Orders.{stands_between}}
 use Rattle.smp_elim.proofs.weights.expect.Goals as goal
 
 pub overflow_sub-left-2 : goal.overflow_sub-left-2

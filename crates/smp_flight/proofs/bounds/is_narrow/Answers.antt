@@ -1,8 +1,7 @@
 use Rattle.std.proofs.Common.{rules, ◌≡◌, max, ◌<◌, ℕ, get_or, length, set, length-set, get_or-set_same, get_or-set_other, arith, ap, sym, ◌∙◌, subst, inl, inr}
 use Rattle.std.proofs.lemmas.Bool.{cases_eq}
 use Rattle.smp_kernel.specs.Minors.{minor_limit}
-use Rattle.smp_flight.specs.Kept.Narrow.{IsRowBound}
-use Rattle.smp_flight.specs.States.{row_count}
+use Rattle.smp_flight.specs.{Kept.Narrow.{IsRowBound}, States.{row_count}}
 use Rattle.smp_frac.specs.Limits.{most_denominator}
 use Rattle.smp_flight.proofs.RowBounds.{narrow_by, none_below, multiple_within, limit_within, entries_within, denominators_within}
 use Rattle.smp_flight.proofs.bounds.is_narrow.Goals as goal

@@ -1,8 +1,7 @@
 use Rattle.std.proofs.Common.{◌≡◌, ◌+◌, ◌*◌, ◌^◌, ◌<◌, ◌≤◌, suc, max, get_or, arith, ap, ap₂, sym, ◌∙◌, mul-le-mul}
 use Rattle.smp_kernel.specs.Minors.{minor_limit}
-use Rattle.smp_flight.proofs.RowBounds.{next_limit, past_limit}
+use Rattle.smp_flight.proofs.{RowBounds.{next_limit, past_limit}, bounds.limit_of.Goals.{After-max, then-row-lt2, else-row-lt2}}
 use Rattle.smp_flight.proofs.bounds.limit_of.Goals as goal
-use Rattle.smp_flight.proofs.bounds.limit_of.Goals.{After-max, then-row-lt2, else-row-lt2}
 
 -- the limit of one row more
 next : (c : After-max) → minor_limit (λ row. max 1 (get_or c.args.bounds.now row 0)) (suc c.loop-row.row) ≡ c.loop-row.limit * c.max.result * c.if-row-lt2.places

@@ -1,6 +1,5 @@
 use Rattle.std.proofs.Common.{SFits, to_z-of_z, rules, w32, ◌≡◌, ◌<◌, ℕ, length, arith, ap, sym, ◌∙◌, subst, inl, inr}
-use Rattle.std.proofs.lemmas.Bool.{cases_eq}
-use Rattle.std.proofs.lemmas.Nat.Gcd.{dvd_refl, dvd_trans}
+use Rattle.std.proofs.{lemmas.Bool.{cases_eq}, lemmas.Nat.Gcd.{dvd_refl, dvd_trans}}
 use Prim.Native.Nat.{◌∣◌}
 use Rattle.smp_prob.specs.Shares.{Shares}
 use Rattle.smp_flight.specs.States.{size}

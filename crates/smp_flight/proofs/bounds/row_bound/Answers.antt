@@ -1,7 +1,6 @@
 use Rattle.std.proofs.Common.{SFits, to_z-of_z, rules, ◌≡◌, ◌≤◌, w32, ℤ, pos, length, get_or, get_or-take, arith, ap, sym, ◌∙◌, inl, inr}
 use Rattle.std.specs.Int.RustNames.{unsigned_abs}
-use Rattle.std.proofs.lemmas.Bool.{cases_eq}
-use Rattle.std.proofs.lemmas.Int.{ints}
+use Rattle.std.proofs.{lemmas.Bool.{cases_eq}, lemmas.Int.{ints}}
 use Rattle.smp_kernel.specs.Vectors.{entry}
 use Rattle.smp_prob.specs.Shares.{Shares}
 use Rattle.smp_flight.specs.States.{column, row_count}

@@ -1,8 +1,6 @@
-use Rattle.std.proofs.Common.{ℕ, get_or, sym, ◌∙◌}
-use Rattle.std.proofs.lemmas.Nat.Gcd.{dvd_antisymm, dvd_refl}
+use Rattle.std.proofs.{Common.{ℕ, get_or, sym, ◌∙◌}, lemmas.Nat.Gcd.{dvd_antisymm, dvd_refl}}
 use Rattle.smp_frac.specs.Laws.Gcds.{IsGcd-greatest_common_divisor}
-use Rattle.smp_moves.specs.Answers.{line_of}
-use Rattle.smp_moves.specs.Ends.{advanced_numbers}
+use Rattle.smp_moves.specs.{Answers.{line_of}, Ends.{advanced_numbers}}
 use Rattle.smp_flight.specs.Kept.Windows.{shares_in}
 use Rattle.smp_flight.proofs.ends.common_past.Goals as goal
 

@@ -1,5 +1,4 @@
-use Rattle.smp_flight.proofs.EqualSizes.{equal_narrow}
-use Rattle.smp_flight.proofs.Narrow.{by_denominator}
+use Rattle.smp_flight.proofs.{EqualSizes.{equal_narrow}, Narrow.{by_denominator}}
 use Rattle.smp_flight.proofs.laws.narrow_law.Goals as goal
 
 pub returns-clause-wide : goal.returns-clause-wide

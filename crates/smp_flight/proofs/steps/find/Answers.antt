@@ -1,11 +1,8 @@
 use Rattle.std.proofs.Common.{◌≡◌, ℕ, ◌+◌, List, min, take, sym, ap, ◌∙◌, subst}
 use Rattle.smp_values.specs.Values.{fractional_units}
-use Rattle.smp_flight.specs.States.{Tracked, Units}
-use Rattle.smp_flight.specs.Steps.{next, next_on}
-use Rattle.smp_flight.specs.Answers.{AreSearched, IsKeptIn}
-use Rattle.smp_flight.proofs.Known.{kept_of}
+use Rattle.smp_flight.specs.{States.{Tracked, Units}, Steps.{next, next_on}, Answers.{AreSearched, IsKeptIn}}
+use Rattle.smp_flight.proofs.{Known.{kept_of}, Searched.{front_searched}}
 use Rattle.smp_flight.specs.Laws.NextProperties.{next_on_front}
-use Rattle.smp_flight.proofs.Searched.{front_searched}
 use Rattle.smp_flight.proofs.steps.find.Goals as goal
 
 pub step_on-requires-clause-units : goal.step_on-requires-clause-units

@@ -1,10 +1,6 @@
-use Rattle.std.proofs.Common.{◌≤◌, ◌<◌, nat_lt, pos, inl, inr, arith, sym, ap}
-use Rattle.std.proofs.lemmas.Bool.{cases_Bool, ltb-true, ltb-false}
-use Rattle.smp_frac.specs.Fractions.{positive_product}
-use Rattle.smp_frac.proofs.Arithmetic.{numerator_positive, minus_from_sum, part_minus_sum}
-use Rattle.smp_frac.proofs.Over.{cross_from_over}
-use Rattle.smp_frac.specs.Exact.{fraction}
-use Rattle.smp_frac.specs.Laws.Coprime.{part_positive}
+use Rattle.std.proofs.{Common.{◌≤◌, ◌<◌, nat_lt, pos, inl, inr, arith, sym, ap}, lemmas.Bool.{cases_Bool, ltb-true, ltb-false}}
+use Rattle.smp_frac.specs.{Fractions.{positive_product}, Exact.{fraction}, Laws.Coprime.{part_positive}}
+use Rattle.smp_frac.proofs.{Arithmetic.{numerator_positive, minus_from_sum, part_minus_sum}, Over.{cross_from_over}}
 use Rattle.smp_frac.proofs.Sums.{terms_difference_apart, terms_difference_rest_apart, difference_value, difference_value_below}
 use Rattle.smp_frac.proofs.differences.difference.Goals as goal
 

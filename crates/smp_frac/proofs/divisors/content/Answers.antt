@@ -1,9 +1,8 @@
-use Rattle.std.proofs.Common.{arith, rules, ◌≡◌, ℕ, length, subst, ap, ◌∙◌, get_or, pos, SFits, to_z-of_z}
+use Rattle.std.proofs.{Common.{arith, rules, ◌≡◌, ℕ, length, subst, ap, ◌∙◌, get_or, pos, SFits, to_z-of_z}, Math.Nat.{one-dvd}}
 use mir.Syntax.{w128}
 use lib.IntN.{nat_abs}
 use Rattle.smp_frac.specs.Divisors.{IsContentOfFirst}
 use Rattle.smp_frac.proofs.Contents.{content_more}
-use Rattle.std.proofs.Math.Nat.{one-dvd}
 use Rattle.smp_frac.proofs.divisors.content.Goals as goal
 
 pub loop-entry-preserved : goal.loop-entry-preserved

@@ -1,6 +1,5 @@
-use Rattle.std.proofs.Common.{ℕ, subst}
+use Rattle.std.proofs.{Common.{ℕ, subst}, lemmas.Nat.Gcd.{IsGcd-from_zero, IsGcd-from_mod}}
 use Rattle.std.specs.Int.{IsGcd}
-use Rattle.std.proofs.lemmas.Nat.Gcd.{IsGcd-from_zero, IsGcd-from_mod}
 use Rattle.smp_frac.specs.Laws.Gcds.{greatest_from_IsGcd}
 use Rattle.smp_frac.proofs.divisors.gcd.Goals as goal
 

@@ -1,6 +1,5 @@
 use Rattle.std.proofs.Common.{◌≡◌, ◌≤◌, ℕ, ◌*◌, ◌/◌, arith, sym, subst, ap, ◌∙◌}
-use Rattle.smp_frac.specs.Divisors.{IsLeastMultiple}
-use Rattle.smp_frac.specs.Laws.Coprime.{divisor_positive, IsLeastMultiple-from_gcd, least_at_most}
+use Rattle.smp_frac.specs.{Divisors.{IsLeastMultiple}, Laws.Coprime.{divisor_positive, IsLeastMultiple-from_gcd, least_at_most}}
 use Rattle.smp_frac.proofs.divisors.lcm_within.Goals as goal
 
 pub quotient-requires : goal.quotient-requires

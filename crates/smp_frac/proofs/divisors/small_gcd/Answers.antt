@@ -1,5 +1,4 @@
-use Rattle.std.proofs.Common.{arith}
-use Rattle.std.proofs.lemmas.Nat.Gcd.{IsGcd-from_zero, IsGcd-from_mod}
+use Rattle.std.proofs.{Common.{arith}, lemmas.Nat.Gcd.{IsGcd-from_zero, IsGcd-from_mod}}
 use Rattle.smp_frac.proofs.divisors.small_gcd.Goals as goal
 
 pub loop-right-preserved : goal.loop-right-preserved

@@ -1,6 +1,5 @@
 use Rattle.std.proofs.Common.{◌≡◌, drop}
-use Rattle.std.specs.List.{list_all}
-use Rattle.std.specs.Str.{is_utf8}
+use Rattle.std.specs.{List.{list_all}, Str.{is_utf8}}
 use Rattle.csv.specs.Records.{fields_of}
 use Rattle.smp_frame.proofs.records.is_text.Given as goal
 

@@ -1,13 +1,8 @@
 use Rattle.std.proofs.Common.{◌≡◌, ◌+◌, [], ◌∷◌, ◌++◌, true, nat_le, ◌∙◌, ap, rules, map, string_bytes}
 use Rattle.smp_frac.specs.Limits.{most_rows}
-use Rattle.smp_frame.specs.Frames.{units_from}
-use Rattle.smp_frame.specs.Kept.Readers.{rows_left}
-use Rattle.smp_frame.specs.Records.{field}
-use Rattle.smp_frame.specs.Kept.Ids.{named, with_id}
+use Rattle.smp_frame.specs.{Frames.{units_from}, Kept.Readers.{rows_left}, Records.{field}, Kept.Ids.{named, with_id}}
 use Rattle.csv.specs.Records.{fields_of}
-use Rattle.smp_frame.proofs.Front.{with_front}
-use Rattle.smp_frame.proofs.Named.{named_more, paired_more}
-use Rattle.smp_frame.proofs.NextUnit.{next_unit}
+use Rattle.smp_frame.proofs.{Front.{with_front}, Named.{named_more, paired_more}, NextUnit.{next_unit}}
 use Rattle.smp_frame.proofs.units.add_units.Goals as goal
 
 pub loop-number-preserved : goal.loop-number-preserved

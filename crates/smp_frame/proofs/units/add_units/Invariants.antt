@@ -1,7 +1,5 @@
 use Rattle.std.proofs.Common.{◌≡◌, [], length, map, string_bytes}
-use Rattle.smp_frame.specs.Frames.{units_from}
-use Rattle.smp_frame.specs.Kept.Ids.{named}
-use Rattle.smp_frame.specs.Kept.Readers.{IsReading, rows_left}
+use Rattle.smp_frame.specs.{Frames.{units_from}, Kept.Ids.{named}, Kept.Readers.{IsReading, rows_left}}
 use Rattle.smp_frame.proofs.Front.{with_front}
 use Rattle.smp_frame.proofs.units.add_units.Given as goal
 

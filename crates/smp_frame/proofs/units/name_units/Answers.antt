@@ -1,5 +1,4 @@
-use Rattle.std.proofs.Common.{◌≡◌, ◌+◌, ◌<◌, ◌≤◌, [], ◌∷◌, ◌∙◌, sym, length, map, Global, string_bytes, arith}
-use Rattle.std.proofs.lemmas.List.{length-set}
+use Rattle.std.proofs.{Common.{◌≡◌, ◌+◌, ◌<◌, ◌≤◌, [], ◌∷◌, ◌∙◌, sym, length, map, Global, string_bytes, arith}, lemmas.List.{length-set}}
 use Rattle.smp_frame.proofs.Named.{named_all, named_next}
 use Rattle.smp_frame.proofs.units.name_units.Goals as goal
 

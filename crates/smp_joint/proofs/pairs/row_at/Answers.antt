@@ -1,7 +1,5 @@
-use Rattle.std.proofs.Common.{refl}
-use Rattle.std.proofs.lemmas.Option.{slice_get_read}
-use Rattle.smp_joint.proofs.RowJoints.{stands}
-use Rattle.smp_joint.proofs.Small.{small_asked}
+use Rattle.std.proofs.{Common.{refl}, lemmas.Option.{slice_get_read}}
+use Rattle.smp_joint.proofs.{RowJoints.{stands}, Small.{small_asked}}
 use Rattle.smp_joint.proofs.pairs.row_at.Goals as goal
 
 pub invariant_of-result : goal.invariant_of-result

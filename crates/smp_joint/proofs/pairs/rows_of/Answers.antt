@@ -1,6 +1,5 @@
 use Rattle.std.proofs.Common.{rules, ◌≡◌, sym, subst, ◌++◌, ◌∷◌, []}
-use Rattle.smp_twostage.specs.Laws.Places.{place_is_seat}
-use Rattle.smp_twostage.specs.Selections.{place_of}
+use Rattle.smp_twostage.specs.{Laws.Places.{place_is_seat}, Selections.{place_of}}
 use Rattle.smp_joint.specs.Rows.{StandsAt}
 use Rattle.smp_joint.proofs.RowJoints.{one_more}
 use Rattle.smp_joint.proofs.pairs.rows_of.Goals as goal

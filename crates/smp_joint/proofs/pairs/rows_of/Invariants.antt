@@ -1,8 +1,7 @@
 use Rattle.std.proofs.Common.{◌≡◌, ℕ, ◌<◌, length}
 use Rattle.std.specs.Prelude.{slice_index_or}
 use Rattle.smp_twostage.specs.Selections.{place_of}
-use Rattle.smp_joint.specs.Rows.{StandsAt}
-use Rattle.smp_joint.specs.declared.row.Row.{Row}
+use Rattle.smp_joint.specs.{Rows.{StandsAt}, declared.row.Row.{Row}}
 use Rattle.smp_joint.proofs.pairs.rows_of.Given as goal
 
 abbrev pub invariant-loop-row : goal.invariant-loop-row

@@ -1,9 +1,5 @@
-use Rattle.smp_kernel.proofs.Minors.{entry_bound}
-use Rattle.smp_kernel.proofs.MinorSizes.{minor_bound}
-use Rattle.smp_kernel.proofs.TableSizes.{table_fits}
-use Rattle.smp_kernel.proofs.CircuitSizes.{circuits_within, denominator_of}
-use Rattle.smp_kernel.proofs.SearchSizes.{not_too_wide}
-use Rattle.smp_kernel.proofs.OneRelation.{fewer_rows, without_one}
+use Rattle.smp_kernel.proofs.{Minors.{entry_bound}, MinorSizes.{minor_bound}, TableSizes.{table_fits}, SearchSizes.{not_too_wide}}
+use Rattle.smp_kernel.proofs.{CircuitSizes.{circuits_within, denominator_of}, OneRelation.{fewer_rows, without_one}}
 use Rattle.smp_kernel.proofs.laws.minors_bound.Goals as goal
 
 pub returns : goal.returns

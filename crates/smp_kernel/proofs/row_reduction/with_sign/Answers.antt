@@ -1,11 +1,8 @@
 use Rattle.std.proofs.Common.{SFits, ◌≡◌, ◌≤◌, ◌<◌, ◌<ℤ◌, ◌^◌, ◌-ℤ◌, arith, rules, get_or, pos, neg_ℤ, ℤ, ℕ, length-set}
-use Rattle.std.proofs.lemmas.Int.{to_z-of_z, ints}
+use Rattle.std.proofs.{lemmas.Int.{to_z-of_z, ints}, lemmas.List.Elements.{All-from_get_or}}
 use Rattle.std.specs.Int.RustNames.{unsigned_abs}
 use mir.Syntax.{w64, w128}
-use Rattle.std.proofs.lemmas.List.Elements.{All-from_get_or}
-use Rattle.smp_kernel.proofs.Lists.{each_more}
-use Rattle.smp_kernel.proofs.Primitive.{abs_positive}
-use Rattle.smp_kernel.proofs.Signs.{other_sign, same_sign, turned_past}
+use Rattle.smp_kernel.proofs.{Lists.{each_more}, Primitive.{abs_positive}, Signs.{other_sign, same_sign, turned_past}}
 use Rattle.smp_kernel.proofs.row_reduction.with_sign.Goals as goal
 
 pub returns-then-factor-gt0-clause-is : goal.returns-then-factor-gt0-clause-is

@@ -1,5 +1,4 @@
-use Rattle.std.proofs.Common.{pos, arith}
-use Rattle.std.proofs.lemmas.List.{ext_get_or}
+use Rattle.std.proofs.{Common.{pos, arith}, lemmas.List.{ext_get_or}}
 use Rattle.smp_kernel.proofs.tables.same.Goals as goal
 
 pub returns : goal.returns

@@ -1,10 +1,7 @@
 use Rattle.std.proofs.Common.{◌≡◌, ◌+◌, ◌≤◌, Some, None, length, lit<, arith, sym, ap, ◌∙◌, subst}
 use Rattle.std.specs.Prelude.{option_map}
-use Rattle.smp_flight.specs.States.{Units}
-use Rattle.smp_flight.specs.Answers.{Allows, IsMoveOf}
-use Rattle.smp_localcube.specs.Local.{head_of}
-use Rattle.smp_localcube.specs.Kept.States.{order_units, step_around, touched_in}
-use Rattle.smp_localcube.specs.Laws.Splits.{has_head}
+use Rattle.smp_flight.specs.{States.{Units}, Answers.{Allows, IsMoveOf}}
+use Rattle.smp_localcube.specs.{Local.{head_of}, Kept.States.{order_units, step_around, touched_in}, Laws.Splits.{has_head}}
 use Rattle.smp_localcube.proofs.Around.{touched_rising, window_within}
 use Rattle.smp_localcube.proofs.state.look.Goals as goal
 

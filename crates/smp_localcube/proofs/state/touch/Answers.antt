@@ -1,6 +1,5 @@
 use Rattle.std.proofs.Common.{SFits, rules, ◌≡◌, ◌≢◌, ℕ, false, pos, length, get_or, set, lit<, arith, sym, ap, ◌∙◌, if◌then◌else◌}
-use Rattle.std.proofs.lemmas.Int.{to_z-of_z}
-use Rattle.std.proofs.lemmas.List.{length-map}
+use Rattle.std.proofs.{lemmas.Int.{to_z-of_z}, lemmas.List.{length-map}}
 use mir.Syntax.{w64}
 use mir.Val.{of_z, to_z}
 use Rattle.smp_kernel.specs.Vectors.{entry}

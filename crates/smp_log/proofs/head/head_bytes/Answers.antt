@@ -1,5 +1,4 @@
-use Rattle.std.proofs.Common.{◌≡◌, [], ◌∷◌, length, take, refl, sym, ◌∙◌, codes, rules, arith}
-use Rattle.std.proofs.lemmas.List.{take_all}
+use Rattle.std.proofs.{Common.{◌≡◌, [], ◌∷◌, length, take, refl, sym, ◌∙◌, codes, rules, arith}, lemmas.List.{take_all}}
 use Rattle.smp_log.proofs.Pieces.{next, head_lines}
 use Rattle.hex.specs.Hex.{encode_lower}
 use Rattle.sha2.specs.Sha256.{sha256}

@@ -1,5 +1,4 @@
-use Rattle.smp_log.proofs.Answered.{exact_reading}
-use Rattle.smp_log.proofs.Telling.{unambiguous}
+use Rattle.smp_log.proofs.{Answered.{exact_reading}, Telling.{unambiguous}}
 use Rattle.smp_log.proofs.laws.old_logs_are_unambiguous.Goals as goal
 
 pub returns-clause-path : goal.returns-clause-path

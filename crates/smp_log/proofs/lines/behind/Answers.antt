@@ -1,7 +1,6 @@
 use Rattle.std.proofs.Common.{◌≡◌, ◌≢◌, ℕ, List, ◌++◌, Option, Some, None, option_map, sym, ap, ◌∙◌, Bor}
 use Rattle.std.specs.Prelude.{MatchOption}
-use Rattle.std.proofs.lemmas.Slice.Eq.{strip_prefix_is}
-use Rattle.std.proofs.lemmas.Bool.Decides.{Decides-eqb}
+use Rattle.std.proofs.{lemmas.Slice.Eq.{strip_prefix_is}, lemmas.Bool.Decides.{Decides-eqb}}
 use Rattle.smp_log.specs.Reading as Reading
 use Rattle.smp_log.proofs.Texts.{behind-append, behind-is}
 use Rattle.smp_log.proofs.lines.behind.Goals as goal

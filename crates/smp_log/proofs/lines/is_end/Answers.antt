@@ -1,10 +1,8 @@
 use Rattle.std.proofs.Common.{◌≡◌, ℕ, ◌<◌, ◌^◌, Bool, true, false, Option, Some, None, sym, ap, arith, codes, eqb, subst}
 use Rattle.std.proofs.lemmas.Bool.{eqb-true, eq-eqb}
-use Rattle.std.specs.Bool.{Decides}
-use Rattle.std.specs.Option.{option_eq}
+use Rattle.std.specs.{Bool.{Decides}, Option.{option_eq}}
 use Rattle.smp_log.specs.Reading.{behind, written}
-use Rattle.smp_log.proofs.Texts.{behind-is}
-use Rattle.smp_log.proofs.StepLines.{end_line-count}
+use Rattle.smp_log.proofs.{Texts.{behind-is}, StepLines.{end_line-count}}
 use Rattle.smp_log.proofs.lines.is_end.Goals as goal
 
 same_option : (o : Option ℕ) (n : ℕ) → Decides (option_eq eqb o (Some n)) (o ≡ Some n)

@@ -1,27 +1,15 @@
 use Rattle.std.proofs.Common.{◌≡◌, ℕ, ◌+◌, ◌++◌, ◌∷◌, [], Bool, true, false, not, List, Option, Some, None, Err, option_map, length, take, refl, sym, ap, ◌∙◌, subst, arith, length-append}
 use Rattle.std.specs.Prelude.{is_some}
-use Rattle.std.proofs.lemmas.Bool.{not-true, not-false}
-use Rattle.std.proofs.lemmas.Result.{err_from_is_err_and}
-use Rattle.smp_split.specs.Paths.{Entry, entry_at}
-use Rattle.smp_split.specs.Runs.{and_then}
-use Rattle.smp_split.specs.Trees.{Tree, Lawful}
-use Rattle.smp_log.specs.Fronts.{IsCompleteLines, Names, StopsAt}
-use Rattle.smp_log.specs.Heads.{IsHead}
-use Rattle.smp_log.specs.Lines.{whole_lines}
-use Rattle.smp_log.specs.LoneSections.{IsOpened, NoneOpens, from_opening, opening_first, section_in_first_lines}
-use Rattle.smp_log.specs.Replayed.{Replays, section_form}
-use Rattle.smp_log.specs.SectionLogs.{sectioned_head}
-use Rattle.smp_log.specs.Steps.{AreAllMade}
-use Rattle.smp_log.specs.Told.{IsToldAlong}
-use Rattle.smp_log.specs.declared.fault.ReplayFault.{ReplayFault}
+use Rattle.std.proofs.{lemmas.Bool.{not-true, not-false}, lemmas.Result.{err_from_is_err_and}}
+use Rattle.smp_split.specs.{Paths.{Entry, entry_at}, Runs.{and_then}, Trees.{Tree, Lawful}}
+use Rattle.smp_log.specs.{Fronts.{IsCompleteLines, Names, StopsAt}, Heads.{IsHead}, Lines.{whole_lines}, Replayed.{Replays, section_form}}
+use Rattle.smp_log.specs.{LoneSections.{IsOpened, NoneOpens, from_opening, opening_first, section_in_first_lines}, Steps.{AreAllMade}}
+use Rattle.smp_log.specs.{SectionLogs.{sectioned_head}, Told.{IsToldAlong}, declared.fault.ReplayFault.{ReplayFault}}
 use Rattle.smp_log.specs.declared.fault.ReplayFault.TheVariants.{Differs, NoMemory}
-use Rattle.smp_log.proofs.SectionReplays.{whole_sectioned_head}
+use Rattle.smp_log.proofs.{SectionReplays.{whole_sectioned_head}, LoneAnswers.{has_reading, has_told}, Replied.{taken}, Telling.{none_told}}
 use Rattle.smp_log.proofs.LoneReplays.{ReadsSection, opens_nowhere, stops, no_opening, opened, not_opened, enters, step_none, step_some, end_none, end_some}
-use Rattle.smp_log.proofs.LoneAnswers.{has_reading, has_told}
 use Rattle.smp_log.proofs.LoneTelling.{none_in_head, none_in_all, none_before, refused_unopened, refused_inside, section_begins, section_step, section_all}
-use Rattle.smp_log.proofs.Replied.{taken}
 use Rattle.smp_log.proofs.StepsAlong.{ReadsOn, stands_on, stopped}
-use Rattle.smp_log.proofs.Telling.{none_told}
 use Rattle.smp_log.proofs.lone_section.replay_section_into.Goals as goal
 
 none_from : {A : Type 0} (o : Option A) (t : Bool) → is_some o ≡ not t → t ≡ true → o ≡ None

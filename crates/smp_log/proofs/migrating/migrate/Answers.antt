@@ -1,7 +1,6 @@
 use Rattle.std.proofs.Common.{◌≡◌, ℕ, List, ◌++◌, Option, Some, Err, ap, sym, subst, ◌∙◌, arith}
 use Rattle.smp_split.specs.Paths.{Entry}
-use Rattle.smp_log.specs.SectionLogs.{RiseFrom, placed, sections_text, steps_of}
-use Rattle.smp_log.specs.Told.{path_told}
+use Rattle.smp_log.specs.{SectionLogs.{RiseFrom, placed, sections_text, steps_of}, Told.{path_told}}
 use Rattle.smp_log.specs.declared.fault.ReplayFault.TheVariants as ReplayFault
 use Rattle.smp_log.proofs.Placed.{none_placed, placed_as, placed_rise}
 use Rattle.smp_log.proofs.migrating.migrate.Goals as goal

@@ -1,6 +1,4 @@
-use Rattle.std.proofs.Common.{◌≡◌, true, false, sym, ◌∙◌, inl, inr}
-use Rattle.std.proofs.lemmas.Bool.{not-true, not-false}
-use Rattle.std.proofs.lemmas.Slice.Eq.{bytes_eq-Decides}
+use Rattle.std.proofs.{Common.{◌≡◌, true, false, sym, ◌∙◌, inl, inr}, lemmas.Bool.{not-true, not-false}, lemmas.Slice.Eq.{bytes_eq-Decides}}
 use Rattle.std.specs.Str.{bytes_eq}
 use Rattle.smp_frac.proofs.Shorter.{shorter}
 use Rattle.smp_log.proofs.Fronts.{agrees_more, agrees_all, agrees_none}

@@ -1,21 +1,11 @@
 use Rattle.std.proofs.Common.{◌≡◌, ℕ, ◌+◌, ◌++◌, ◌∷◌, [], ◌<◌, true, not, List, Option, length, Ok, rules, refl, sym, ap, ◌∙◌, subst, arith, length-append}
-use Rattle.std.proofs.lemmas.Bool.{not-true, not-false}
-use Rattle.std.proofs.lemmas.Result.{err_from_is_err_and}
-use Rattle.smp_split.specs.Paths.{Entry, entry_at}
-use Rattle.smp_split.specs.Runs.{and_then}
-use Rattle.smp_split.specs.Trees.{Tree, Lawful, picked}
-use Rattle.smp_log.specs.Fronts.{IsCompleteLines}
-use Rattle.smp_log.specs.Genuine.{DiffersAt, IsGenuine}
-use Rattle.smp_log.specs.Heads.{IsHead}
-use Rattle.smp_log.specs.Reading.{end_line}
-use Rattle.smp_log.specs.Replayed.{old_form}
-use Rattle.smp_log.specs.Steps.{AreAllMade}
-use Rattle.smp_log.specs.Told.{path_in_first_lines, IsToldAlong}
-use Rattle.smp_log.proofs.FirstLines.{first_is}
-use Rattle.smp_log.proofs.Replied.{refused_at, refused_behind, refused_head, taken}
+use Rattle.std.proofs.{lemmas.Bool.{not-true, not-false}, lemmas.Result.{err_from_is_err_and}}
+use Rattle.smp_split.specs.{Paths.{Entry, entry_at}, Runs.{and_then}, Trees.{Tree, Lawful, picked}}
+use Rattle.smp_log.specs.{Fronts.{IsCompleteLines}, Genuine.{DiffersAt, IsGenuine}, Heads.{IsHead}, Reading.{end_line}, Replayed.{old_form}}
+use Rattle.smp_log.specs.{Steps.{AreAllMade}, Told.{path_in_first_lines, IsToldAlong}}
+use Rattle.smp_log.proofs.{FirstLines.{first_is}, Replied.{refused_at, refused_behind, refused_head, taken}}
 use Rattle.smp_log.proofs.Replays.{IsReplaying, whole_head, head_count, first, stops, no_step, more, no_end, something_behind, replayed}
-use Rattle.smp_log.proofs.Answered.{exact_reading, old_reads}
-use Rattle.smp_log.proofs.StepsAlong.{ReadsOn, stands_on, stopped}
+use Rattle.smp_log.proofs.{Answered.{exact_reading, old_reads}, StepsAlong.{ReadsOn, stands_on, stopped}}
 use Rattle.smp_log.proofs.Telling.{few_told, none_along, told_step, told_over, told_part, told_all, genuine_told}
 use Rattle.smp_log.proofs.replaying.old_replay_into.Goals as goal
 

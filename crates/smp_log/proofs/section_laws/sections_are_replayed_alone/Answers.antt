@@ -1,7 +1,6 @@
 use Rattle.std.proofs.Common.{◌≡◌, ◌<◌, ◌^◌, length, ap, subst, arith}
 use Rattle.smp_log.specs.SectionLogs.{placed, sections_text}
-use Rattle.smp_log.proofs.PartSections.{replayed_alone}
-use Rattle.smp_log.proofs.SectionCounts.{sections_within}
+use Rattle.smp_log.proofs.{PartSections.{replayed_alone}, SectionCounts.{sections_within}}
 use Rattle.smp_log.proofs.section_laws.sections_are_replayed_alone.Goals as goal
 
 pub returns : goal.returns

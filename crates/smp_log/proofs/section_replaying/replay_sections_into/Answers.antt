@@ -1,21 +1,11 @@
 use Rattle.std.proofs.Common.{◌≡◌, ◌≢◌, ℕ, ◌+◌, ◌++◌, ◌∷◌, [], ◌<◌, ◌≤◌, ◌==◌, List, Option, Some, length, Ok, rules, refl, sym, ap, ◌∙◌, subst, arith}
-use Rattle.std.proofs.lemmas.Bool.{eqb-true, eqb-false}
-use Rattle.std.proofs.lemmas.Result.{err_from_is_err_and}
-use Rattle.smp_split.specs.Paths.{Entry, entry_at}
-use Rattle.smp_split.specs.Runs.{and_then}
-use Rattle.smp_split.specs.Sectioning.{Sectioning, IsSectioned}
-use Rattle.smp_split.specs.Trees.{Tree, Lawful, picked}
-use Rattle.smp_log.specs.Fronts.{IsCompleteLines}
-use Rattle.smp_log.specs.Reading.{end_line, after_line}
-use Rattle.smp_log.specs.Replayed.{sectioned_form}
-use Rattle.smp_log.specs.SectionReading.{stratum_line, taken_at}
-use Rattle.smp_log.specs.Steps.{AreAllMade}
-use Rattle.smp_log.specs.Told.{path_in_first_lines, IsToldAlong}
-use Rattle.smp_log.proofs.FirstLines.{first_is}
-use Rattle.smp_log.proofs.Replied.{refused_at, refused_behind, refused_head, taken}
+use Rattle.std.proofs.{lemmas.Bool.{eqb-true, eqb-false}, lemmas.Result.{err_from_is_err_and}}
+use Rattle.smp_split.specs.{Paths.{Entry, entry_at}, Runs.{and_then}, Sectioning.{Sectioning, IsSectioned}, Trees.{Tree, Lawful, picked}}
+use Rattle.smp_log.specs.{Fronts.{IsCompleteLines}, Reading.{end_line, after_line}, Replayed.{sectioned_form}, Steps.{AreAllMade}}
+use Rattle.smp_log.specs.{SectionReading.{stratum_line, taken_at}, Told.{path_in_first_lines, IsToldAlong}}
+use Rattle.smp_log.proofs.{FirstLines.{first_is}, Replied.{refused_at, refused_behind, refused_head, taken}}
 use Rattle.smp_log.proofs.SectionReplays.{IsOpening, IsInside, whole_sectioned_head, sectioned_head_count, first, stops, enter_none, enter_some, end_none, something_behind, replayed, step_none, step_some, leave_none, leave_some, done_behind}
-use Rattle.smp_log.proofs.AnsweredSections.{exact_sectioned, sectioned_reads}
-use Rattle.smp_log.proofs.StepsAlong.{ReadsOn, stands_on, stopped}
+use Rattle.smp_log.proofs.{AnsweredSections.{exact_sectioned, sectioned_reads}, StepsAlong.{ReadsOn, stands_on, stopped}}
 use Rattle.smp_log.proofs.Telling.{few_told, none_along, told_step, told_over, told_part, told_all}
 use Rattle.smp_log.proofs.SectionTelling.{told_passed, stratum_is_no_step, done_is_no_step, sectioned_told}
 use Rattle.smp_log.proofs.section_replaying.replay_sections_into.Goals as goal

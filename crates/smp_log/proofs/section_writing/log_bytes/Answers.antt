@@ -1,11 +1,8 @@
 use Rattle.std.proofs.Common.{◌≡◌, ◌≢◌, ℕ, ◌+◌, ◌<◌, ◌≤◌, ◌++◌, Bool, true, false, cond, ltb, List, [], ◌∷◌, drop, length, get_or, map, rules, refl, sym, ap, subst, arith}
 use mir.Val.{bool_byte}
 use Rattle.std.proofs.lemmas.List.{drop_all, drop_more}
-use Rattle.smp_split.specs.declared.kind.Kind.{Kind}
-use Rattle.smp_split.specs.declared.kind.Kind.TheVariants.{Order}
-use Rattle.smp_split.specs.Paths.{Entry}
-use Rattle.smp_log.specs.Logs.{step_text, end_text}
-use Rattle.smp_log.specs.SectionLogs.{RiseFrom, done_text, section_line, stratum_text}
+use Rattle.smp_split.specs.{declared.kind.Kind.{Kind}, declared.kind.Kind.TheVariants.{Order}, Paths.{Entry}}
+use Rattle.smp_log.specs.{Logs.{step_text, end_text}, SectionLogs.{RiseFrom, done_text, section_line, stratum_text}}
 use Rattle.smp_log.proofs.SectionWrites.{WritesOpening, enters, first, leaves, steps_on, whole_log}
 use Rattle.smp_log.proofs.section_writing.log_bytes.Goals as goal
 use Rattle.smp_log.proofs.section_writing.log_bytes.Goals.{then-loop-next-test+else-steps-next, else-loop-next-test}

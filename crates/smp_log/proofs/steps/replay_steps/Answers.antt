@@ -1,10 +1,8 @@
 use Rattle.std.proofs.Common.{◌≡◌, ◌<◌, ◌≤◌, true, false, Bool, cond, ltb, length, Err, rules, refl, sym, ◌∙◌, arith}
 use mir.Val.{bool_byte}
-use Rattle.smp_split.specs.Laws.Steps.{picked_belongs}
-use Rattle.smp_split.specs.Trees.{weight_sum}
+use Rattle.smp_split.specs.{Laws.Steps.{picked_belongs}, Trees.{weight_sum}}
 use Rattle.smp_log.specs.declared.fault.ReplayFault.TheVariants.{NoMemory}
-use Rattle.smp_log.proofs.FirstLines.{first_shorter, first_within}
-use Rattle.smp_log.proofs.StepsMade.{left_by, made_by, more_made, none_made}
+use Rattle.smp_log.proofs.{FirstLines.{first_shorter, first_within}, StepsMade.{left_by, made_by, more_made, none_made}}
 use Rattle.smp_log.proofs.steps.replay_steps.Goals as goal
 
 bool_cond : (b : Bool) → bool_byte b ≡ cond b 1 0

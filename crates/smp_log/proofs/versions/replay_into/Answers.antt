@@ -1,14 +1,8 @@
 use Rattle.std.proofs.Common.{◌≡◌, Bool, true, false, List, ℕ, Option, inl, inr, sym, ◌∙◌}
-use Rattle.smp_split.specs.Paths.{Entry}
-use Rattle.smp_split.specs.Sectioning.{Sectioning}
-use Rattle.smp_split.specs.Trees.{Tree}
-use Rattle.smp_log.specs.Genuine.{DiffersAt, IsToldLogOf}
-use Rattle.smp_log.specs.Heads.{IsHead}
-use Rattle.smp_log.specs.Replayed.{Replays, any_form, old_form, sectioned_form}
-use Rattle.smp_log.specs.SectionLogs.{IsAnyGenuine, IsAnyText}
-use Rattle.smp_log.specs.SectionReading.{any_reading, is_sectioned}
-use Rattle.smp_log.proofs.Replied.{Answer, as_form}
-use Rattle.smp_log.proofs.TwoVersions.{sectioned_differs, old_differs, reading_of}
+use Rattle.smp_split.specs.{Paths.{Entry}, Sectioning.{Sectioning}, Trees.{Tree}}
+use Rattle.smp_log.specs.{Genuine.{DiffersAt, IsToldLogOf}, Heads.{IsHead}, Replayed.{Replays, any_form, old_form, sectioned_form}}
+use Rattle.smp_log.specs.{SectionLogs.{IsAnyGenuine, IsAnyText}, SectionReading.{any_reading, is_sectioned}}
+use Rattle.smp_log.proofs.{Replied.{Answer, as_form}, TwoVersions.{sectioned_differs, old_differs, reading_of}}
 use Rattle.smp_log.proofs.versions.replay_into.Goals as goal
 
 module _ {State : Type 0} {tree : Tree State} {belongs : State → Type 0} (sections : Sectioning State) {from : State} (head : List ℕ) {log : List ℕ} {to : State} {old new : Option (List Entry)} {refuses : Bool} {result : Answer} where

@@ -1,6 +1,5 @@
 use Rattle.std.proofs.Common.{◌≡◌, ◌++◌, drop, map}
-use Rattle.smp_log.specs.Logs.{steps_text}
-use Rattle.smp_log.specs.SectionLogs.{section_line, steps_of}
+use Rattle.smp_log.specs.{Logs.{steps_text}, SectionLogs.{section_line, steps_of}}
 use Rattle.smp_log.proofs.writing.push_steps.Given as goal
 
 abbrev pub invariant-loop-step : goal.invariant-loop-step

@@ -1,11 +1,7 @@
 use Rattle.std.proofs.Common.{◌≡◌, List, [], ◌∷◌, ◌++◌, sym, ap, subst, ◌∙◌}
 use Rattle.smp_values.specs.Starts.{IsRequested}
-use Rattle.smp_stratcube.specs.States.{started}
-use Rattle.smp_stratcube.specs.Cube.{strat_tree}
-use Rattle.smp_stratcube.specs.Layers.{AreLayers, Layer}
-use Rattle.smp_stratcube.specs.Kept.Layers.{layer_of}
-use Rattle.smp_stratcube.specs.Requests.{AreRequested}
-use Rattle.smp_stratcube.specs.Units.{Units, units_of}
+use Rattle.smp_stratcube.specs.{States.{started}, Cube.{strat_tree}, Layers.{AreLayers, Layer}, Kept.Layers.{layer_of}}
+use Rattle.smp_stratcube.specs.{Requests.{AreRequested}, Units.{Units, units_of}}
 use Rattle.smp_methods.proofs.OneStratum.{are_layers, are_numbers, one_requested}
 use Rattle.smp_methods.proofs.stratified.stratified_cube.Goals as goal
 

@@ -1,9 +1,8 @@
 use Rattle.std.proofs.Common.{◌≡◌, ◌≢◌, ℕ, ◌+◌, ◌<◌, List, length, get_or, set, ◌∙◌, sym, ap, arith}
 use Rattle.std.proofs.lemmas.List.{get_or-set_same, get_or-set_other}
 use Rattle.smp_near.specs.Kept.Trees.{lives_at, one_if}
-use Rattle.smp_near.proofs.Counting.{before_more, counted_all, counted_kept}
+use Rattle.smp_near.proofs.{Counting.{before_more, counted_all, counted_kept}, counts.+tally.Goals.{then-living-order, else-living-order}}
 use Rattle.smp_places.proofs.Roots.{no_root}
-use Rattle.smp_near.proofs.counts.+tally.Goals.{then-living-order, else-living-order}
 use Rattle.smp_near.proofs.counts.+tally.Goals as goal
 
 pub returns-else-low-high-clause-counted : goal.returns-else-low-high-clause-counted

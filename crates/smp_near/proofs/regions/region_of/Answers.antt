@@ -1,6 +1,4 @@
-use Rattle.std.proofs.Common.{◌≡◌, ◌<◌, [], get_or, length, arith, inl, inr}
-use Rattle.std.proofs.lemmas.Bool.{cases_lt}
-use Rattle.std.proofs.lemmas.List.{get_or_read}
+use Rattle.std.proofs.{Common.{◌≡◌, ◌<◌, [], get_or, length, arith, inl, inr}, lemmas.Bool.{cases_lt}, lemmas.List.{get_or_read}}
 use Rattle.smp_near.proofs.regions.region_of.Goals as goal
 
 pub loop-place-preserved : goal.loop-place-preserved

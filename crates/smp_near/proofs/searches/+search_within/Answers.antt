@@ -1,5 +1,4 @@
-use Rattle.std.proofs.Common.{◌<◌, length, arith}
-use Rattle.std.proofs.lemmas.List.{get_or_read}
+use Rattle.std.proofs.{Common.{◌<◌, length, arith}, lemmas.List.{get_or_read}}
 use Rattle.smp_near.specs.Kept.Trees.{points_of}
 use Rattle.smp_near.proofs.Searching.{best_of_parts, left_out_behind, left_out_empty}
 use Rattle.smp_near.proofs.searches.+search_within.Goals as goal

@@ -1,5 +1,4 @@
-use Rattle.std.proofs.Common.{◌<◌, ◌∙◌, [], length, sym, arith}
-use Rattle.std.proofs.lemmas.List.{get_or_read}
+use Rattle.std.proofs.{Common.{◌<◌, ◌∙◌, [], length, sym, arith}, lemmas.List.{get_or_read}}
 use Rattle.smp_near.specs.Kept.Trees.{points_of}
 use Rattle.smp_near.proofs.Searching.{bound_none, bound_some}
 use Rattle.smp_near.proofs.searches.bound_at.Goals as goal

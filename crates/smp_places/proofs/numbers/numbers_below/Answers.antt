@@ -1,5 +1,4 @@
-use Rattle.std.proofs.Common.{arith, refl}
-use Rattle.std.proofs.lemmas.Iterator.{YieldsList-from_range, items_from_collect}
+use Rattle.std.proofs.{Common.{arith, refl}, lemmas.Iterator.{YieldsList-from_range, items_from_collect}}
 use Rattle.smp_places.proofs.numbers.numbers_below.Goals as goal
 
 pub returns : goal.returns

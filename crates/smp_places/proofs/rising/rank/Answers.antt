@@ -1,5 +1,4 @@
-use Rattle.std.proofs.Common.{get_or, rules}
-use Rattle.std.proofs.lemmas.List.Sorted.{IsNonDecreasingBy-from_sort_by_key}
+use Rattle.std.proofs.{Common.{get_or, rules}, lemmas.List.Sorted.{IsNonDecreasingBy-from_sort_by_key}}
 use Rattle.smp_places.proofs.rising.rank.Goals as goal
 
 pub returns-clause-rises : goal.returns-clause-rises

@@ -1,7 +1,5 @@
-use Rattle.std.proofs.Common.{◌≡◌, ℕ, ◌++◌, List, length, take, drop, sym, subst, arith}
-use Rattle.std.specs.List.{range_with_len}
-use Rattle.std.specs.List.Sorted.{IsPermutation}
-use Rattle.std.proofs.lemmas.List.{take_at}
+use Rattle.std.proofs.{Common.{◌≡◌, ℕ, ◌++◌, List, length, take, drop, sym, subst, arith}, lemmas.List.{take_at}}
+use Rattle.std.specs.{List.{range_with_len}, List.Sorted.{IsPermutation}}
 use Rattle.smp_places.specs.Orders.{InRisingOrder}
 use Rattle.smp_places.proofs.rising.rising_order.Goals as goal
 

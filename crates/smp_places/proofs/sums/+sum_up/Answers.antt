@@ -1,6 +1,5 @@
 use Rattle.std.proofs.Common.{ℕ, ◌<◌, List, length, arith}
-use Rattle.smp_places.proofs.Summing.{before_more, before_within, summed_kept, summed_set}
-use Rattle.smp_places.proofs.Roots.{no_root}
+use Rattle.smp_places.proofs.{Summing.{before_more, before_within, summed_kept, summed_set}, Roots.{no_root}}
 use Rattle.smp_places.proofs.sums.+sum_up.Goals as goal
 
 pub returns-else-low-high-clause-summed : goal.returns-else-low-high-clause-summed

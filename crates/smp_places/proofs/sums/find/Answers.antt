@@ -1,6 +1,5 @@
 use Rattle.std.proofs.Common.{length, arith}
-use Rattle.smp_places.proofs.Summing.{is_at_root, weighted_all, weighted_none, weighted_rises}
-use Rattle.smp_places.proofs.Roots.{first_half, second_half}
+use Rattle.smp_places.proofs.{Summing.{is_at_root, weighted_all, weighted_none, weighted_rises}, Roots.{first_half, second_half}}
 use Rattle.smp_places.proofs.sums.find.Goals as goal
 
 pub loop-low-init : goal.loop-low-init

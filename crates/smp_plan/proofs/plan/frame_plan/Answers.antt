@@ -2,8 +2,7 @@ use Rattle.std.proofs.Common.{◌≡◌, ◌∙◌, List, ℕ, Ok, Err, false, l
 use Rattle.smp_frame.specs.Frames.{frame_of}
 use Rattle.smp_log.specs.Heads.{head_of}
 use Rattle.smp_status.specs.Codes.{misfit_status}
-use Rattle.smp_plan.specs.Inputs.{is_large, plan_of}
-use Rattle.smp_plan.specs.Planned.{GivesPlan, frame_view, plan_view, read_view}
+use Rattle.smp_plan.specs.{Inputs.{is_large, plan_of}, Planned.{GivesPlan, frame_view, plan_view, read_view}}
 use Rattle.smp_plan.proofs.Inputs.{misfit_read, plan_read}
 use Rattle.smp_plan.proofs.plan.frame_plan.Goals as goal
 

@@ -1,9 +1,6 @@
 use Rattle.std.proofs.Common.{◌≡◌, ◌∙◌, Err, rules}
-use Rattle.smp_plan.specs.Inputs.{design_names, design_stage, frame_names, frame_stage}
-use Rattle.smp_plan.specs.Planned.{frame_view, read_view, source_view}
-use Rattle.smp_plan.proofs.Inputs.{design_ignores}
-use Rattle.smp_plan.proofs.Names.{no_first, no_second}
-use Rattle.smp_plan.proofs.Steps.{goes_on, stops}
+use Rattle.smp_plan.specs.{Inputs.{design_names, design_stage, frame_names, frame_stage}, Planned.{frame_view, read_view, source_view}}
+use Rattle.smp_plan.proofs.{Inputs.{design_ignores}, Names.{no_first, no_second}, Steps.{goes_on, stops}}
 use Rattle.smp_plan.proofs.plan.plan_from.Goals as goal
 
 pub returns-clause-reads : goal.returns-clause-reads

@@ -1,6 +1,5 @@
 use Rattle.std.proofs.Common.{arith}
-use Rattle.smp_prob.proofs.Draws.{narrow, whole_few, divisor_narrow}
-use Rattle.smp_prob.proofs.ShapeLemmas.{shape_small}
+use Rattle.smp_prob.proofs.{Draws.{narrow, whole_few, divisor_narrow}, ShapeLemmas.{shape_small}}
 use Rattle.smp_prob.proofs.probabilities.draws_over.Goals as goal
 
 pub overflow_cast-result-then-rest-eq0 : goal.overflow_cast-result-then-rest-eq0

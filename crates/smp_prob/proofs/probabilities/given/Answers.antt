@@ -1,12 +1,9 @@
-use Rattle.std.proofs.Common.{◌≤◌, ◌∙◌, ap, arith, get_or}
+use Rattle.std.proofs.{Common.{◌≤◌, ◌∙◌, ap, arith, get_or}, lemmas.List.{length-map}, lemmas.List.Elements.{All-map}}
 use Rattle.std.specs.Prelude.{sum}
-use Rattle.std.proofs.lemmas.List.{length-map}
-use Rattle.std.proofs.lemmas.List.Elements.{All-map}
 use Rattle.smp_prob.specs.Given.{expected_size, numerator_over}
-use Rattle.smp_prob.proofs.Expected.{sum_expected, whole_expected}
+use Rattle.smp_prob.proofs.{Expected.{sum_expected, whole_expected}, Numerators.{numerator_within}}
 use Rattle.smp_prob.proofs.GivenUnits.{given_is, IsRequest-given_of, IsRising-given_of, AreApart-given_of, AreBelow-given_of, asked_given, size_given, drawn_given, whole_given, nothing_free}
 use Rattle.smp_prob.proofs.Multiples.{common_multiple_positive, IsLeastMultipleOf-common_multiple}
-use Rattle.smp_prob.proofs.Numerators.{numerator_within}
 use Rattle.smp_prob.proofs.probabilities.given.Goals as goal
 
 pub returns-in_default-clause-multiple : goal.returns-in_default-clause-multiple

@@ -1,5 +1,4 @@
-use Rattle.std.proofs.Common.{rules}
-use Rattle.std.proofs.lemmas.List.Sorted.{IsPermutation-trans, IsPermutation-reverse}
+use Rattle.std.proofs.{Common.{rules}, lemmas.List.Sorted.{IsPermutation-trans, IsPermutation-reverse}}
 use Rattle.smp_prob.proofs.Sizes.{falling_reverse}
 use Rattle.smp_prob.proofs.proportional.falling.Goals as goal
 

@@ -1,5 +1,4 @@
-use Rattle.std.proofs.Common.{arith, inl, inr}
-use Rattle.std.proofs.lemmas.Bool.{cases_eq}
+use Rattle.std.proofs.{Common.{arith, inl, inr}, lemmas.Bool.{cases_eq}}
 use Rattle.smp_prob.proofs.proportional.largest_of.Goals as goal
 
 pub loop-size-preserved : goal.loop-size-preserved

@@ -1,6 +1,4 @@
-use Rattle.std.proofs.Common.{◌≡◌, ℕ, arith, inl, inr}
-use Rattle.std.proofs.lemmas.Bool.{cases_lt}
-use Rattle.std.proofs.lemmas.List.Sums.{sum_by-drop_more}
+use Rattle.std.proofs.{Common.{◌≡◌, ℕ, arith, inl, inr}, lemmas.Bool.{cases_lt}, lemmas.List.Sums.{sum_by-drop_more}}
 use Rattle.smp_prob.proofs.proportional.least_cut.Goals as goal
 
 pub loop-cut-preserved : goal.loop-cut-preserved

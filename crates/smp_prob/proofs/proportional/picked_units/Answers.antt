@@ -1,11 +1,7 @@
-use Rattle.std.proofs.Common.{◌≡◌, ◌+◌, get_or, rules, arith}
-use Rattle.std.proofs.lemmas.List.Sorted.{length_permutation}
+use Rattle.std.proofs.{Common.{◌≡◌, ◌+◌, get_or, rules, arith}, lemmas.List.Sorted.{length_permutation}}
 use Rattle.smp_prob.specs.Kept.Cuts.{border}
-use Rattle.smp_prob.proofs.Sizes.{all_at_most, small_order}
-use Rattle.smp_prob.proofs.FallingOrders.{cut_order, long_order}
-use Rattle.smp_prob.proofs.Cuts.{IsCut, is_feasible, light_cut}
-use Rattle.smp_prob.proofs.RequestedUnits.{certain_places, free_places, sizes_below}
-use Rattle.smp_prob.proofs.proportional.picked_units.Goals.{After-pick}
+use Rattle.smp_prob.proofs.{Sizes.{all_at_most, small_order}, FallingOrders.{cut_order, long_order}, Cuts.{IsCut, is_feasible, light_cut}}
+use Rattle.smp_prob.proofs.{RequestedUnits.{certain_places, free_places, sizes_below}, proportional.picked_units.Goals.{After-pick}}
 use Rattle.smp_prob.proofs.proportional.picked_units.Goals as goal
 
 pub least_cut-cut-requires-clause-few : goal.least_cut-cut-requires-clause-few

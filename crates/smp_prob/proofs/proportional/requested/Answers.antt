@@ -1,7 +1,6 @@
 use Rattle.std.proofs.Common.{refl, arith}
-use Rattle.smp_prob.proofs.FallingOrders.{first_are_certain}
+use Rattle.smp_prob.proofs.{FallingOrders.{first_are_certain}, Picks.{places_below}}
 use Rattle.smp_prob.proofs.RequestedUnits.{length-certain, few_free, free_positive, free_small, nothing_left, IsRequest-requested_of}
-use Rattle.smp_prob.proofs.Picks.{places_below}
 use Rattle.smp_prob.proofs.Positions.{is_ordered, apart_requested, asked_is, count-drawn}
 use Rattle.smp_prob.specs.Requested.{is_certain, is_free}
 use Rattle.smp_prob.proofs.proportional.requested.Goals as goal

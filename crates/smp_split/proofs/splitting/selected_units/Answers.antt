@@ -1,7 +1,6 @@
 use Rattle.std.proofs.Common.{◌≡◌, ◌<◌, true, false, ℕ, ◌+◌, ◌-◌, ◌++◌, List, arith, sym, ap, ◌∙◌}
 use Rattle.std.specs.List.{filter, range_with_len}
-use Rattle.smp_split.proofs.Filters.{filter_moved, filter_next}
-use Rattle.smp_split.proofs.splitting.selected_units.Goals.{then-selected+in_ok-push, else-selected}
+use Rattle.smp_split.proofs.{Filters.{filter_moved, filter_next}, splitting.selected_units.Goals.{then-selected+in_ok-push, else-selected}}
 use Rattle.smp_split.proofs.splitting.selected_units.Goals as goal
 
 pub loop-unit-preserved : goal.loop-unit-preserved

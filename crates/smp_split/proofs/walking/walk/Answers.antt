@@ -1,11 +1,8 @@
 use Rattle.std.proofs.Common.{◌≡◌, ◌<◌, true, false, Ok, Err, refl, ap, sym, subst, ◌∙◌, rules}
-use Rattle.smp_split.specs.Trees.{weight_sum}
-use Rattle.smp_split.specs.Paths.{Entry, IsStep, entry_at}
-use Rattle.smp_split.specs.Runs.{position, Refused}
+use Rattle.smp_split.specs.{Trees.{weight_sum}, Paths.{Entry, IsStep, entry_at}, Runs.{position, Refused}}
 use Rattle.smp_split.specs.declared.walking.WalkFault.TheVariants as faults
-use Rattle.smp_split.specs.Laws.Means.{mean_is_value, probability_is_value}
+use Rattle.smp_split.specs.{Laws.Means.{mean_is_value, probability_is_value}, Laws.Steps.{picked_falls, Gives-push, Walking-step}}
 use Rattle.smp_split.proofs.Runs.{run_to_leaf, run_to_stop}
-use Rattle.smp_split.specs.Laws.Steps.{picked_falls, Gives-push, Walking-step}
 use Rattle.smp_split.proofs.walking.walk.Goals as goal
 
 pub loop-state-smaller : goal.loop-state-smaller

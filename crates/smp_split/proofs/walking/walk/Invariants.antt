@@ -1,5 +1,4 @@
-use Rattle.smp_split.specs.Runs.{position, KeepsOn}
-use Rattle.smp_split.specs.Laws.Steps.{Walking}
+use Rattle.smp_split.specs.{Runs.{position, KeepsOn}, Laws.Steps.{Walking}}
 use Rattle.smp_split.proofs.walking.walk.Given as goal
 
 abbrev pub invariant-loop-state : goal.invariant-loop-state

@@ -1,5 +1,4 @@
-use Rattle.std.proofs.Common.{slice_index, arith, sym}
-use Rattle.std.proofs.lemmas.List.FromFn.{map-range_with_len_more}
+use Rattle.std.proofs.{Common.{slice_index, arith, sym}, lemmas.List.FromFn.{map-range_with_len_more}}
 use Rattle.smp_strata.specs.Kept.Keys.{key}
 use Rattle.smp_strata.proofs.allocation.keys.Goals as goal
 

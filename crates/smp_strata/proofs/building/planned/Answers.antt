@@ -1,18 +1,13 @@
 use Rattle.std.proofs.Common.{◌≡◌, ◌∙◌, ◌<◌, ℕ, List, Global, Vec, None, All, Err, ap, refl, subst, rules, length, get_or}
 use Rattle.smp_design.specs.declared.design.Design.{Design}
 use Rattle.smp_frame.specs.declared.frame.Unit as unit
-use Rattle.smp_strata.specs.Clusters.{clusters}
-use Rattle.smp_strata.specs.Misfits.{unit_in_two}
-use Rattle.smp_strata.specs.declared.begun.Begun.{Begun}
-use Rattle.smp_strata.specs.declared.layout.Strata.{Strata}
-use Rattle.smp_strata.specs.declared.plan.Plan.{Plan}
+use Rattle.smp_strata.specs.{Clusters.{clusters}, Misfits.{unit_in_two}, declared.begun.Begun.{Begun}, declared.layout.Strata.{Strata}}
+use Rattle.smp_strata.specs.{declared.plan.Plan.{Plan}, Kept.Built.{AreBuilt, AreSeats, seat_by}}
 use Rattle.smp_strata.specs.declared.strata.Seat as seat
 use Rattle.smp_strata.specs.declared.strata.Stratum as stratum
-use Rattle.smp_strata.specs.Kept.Built.{AreBuilt, AreSeats, seat_by}
 use Rattle.smp_strata.specs.Kept.Layouts.{AreGroups, IsLaidOut, homes_of}
 use Rattle.smp_strata.proofs.Asking.{are_strata, are_whole, asks_as_frame, draws_as_asked, have_balance, have_points, long_homes, seated_by, seats_are}
-use Rattle.smp_strata.proofs.Laid.{all_rows, groups}
-use Rattle.smp_strata.proofs.MisfitOrder.{passed}
+use Rattle.smp_strata.proofs.{Laid.{all_rows, groups}, MisfitOrder.{passed}}
 use Rattle.smp_strata.proofs.building.planned.Goals as goal
 
 module _ {design : Design} {units : List unit.Unit} {clustered : List (List ℕ)} {strata : Strata} (layout : IsLaidOut design units clustered strata) where

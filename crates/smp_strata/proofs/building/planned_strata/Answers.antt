@@ -1,15 +1,11 @@
 use Rattle.std.proofs.Common.{◌≡◌, ℕ, List, Global, Vec, length, rules, sym, ap, ◌∙◌, None, Some, Err, arith, refl}
-use Rattle.std.specs.Prelude.{Bool}
-use Rattle.std.specs.Vec.{vec_len}
-use Rattle.smp_design.specs.Words.{draws_together, row}
-use Rattle.smp_design.specs.declared.design.Design.{Design}
+use Rattle.std.specs.{Prelude.{Bool}, Vec.{vec_len}}
+use Rattle.smp_design.specs.{Words.{draws_together, row}, declared.design.Design.{Design}}
 use Rattle.smp_frame.specs.declared.frame.Unit as unit
 use Rattle.smp_design.proofs.Rows.{few_columns}
-use Rattle.smp_strata.specs.declared.begun.Begun.{Begun}
-use Rattle.smp_strata.specs.Misfits.{misfit_by, psu_too_large, row_limit, row_limit_by}
+use Rattle.smp_strata.specs.{declared.begun.Begun.{Begun}, Misfits.{misfit_by, psu_too_large, row_limit, row_limit_by}}
 use Rattle.smp_strata.specs.Clusters.{stratum_names}
-use Rattle.smp_strata.proofs.Laid.{all_rows}
-use Rattle.smp_strata.proofs.Members.{names_few}
+use Rattle.smp_strata.proofs.{Laid.{all_rows}, Members.{names_few}}
 use Rattle.smp_strata.proofs.MisfitOrder.{by_parts, kind_1, kind_2, kind_3, last_kind, or_first, or_then, passed}
 use Rattle.smp_strata.proofs.building.planned_strata.Goals as goal
 

@@ -1,17 +1,10 @@
-use Rattle.std.proofs.Common.{◌≡◌, ◌∙◌, ◌<◌, ◌≤◌, [], Err, arith, ap, get_or, inl, inr, length, refl, rules, sym}
-use Rattle.std.proofs.lemmas.Bool.{cases_eq}
-use Rattle.std.proofs.lemmas.List.{drop_all, get_or_default, length-map}
-use Rattle.std.proofs.lemmas.List.Elements.{All-from_get_or}
+use Rattle.std.proofs.{Common.{◌≡◌, ◌∙◌, ◌<◌, ◌≤◌, [], Err, arith, ap, get_or, inl, inr, length, refl, rules, sym}, lemmas.Bool.{cases_eq}}
+use Rattle.std.proofs.{lemmas.List.{drop_all, get_or_default, length-map}, lemmas.List.Elements.{All-from_get_or}}
 use Rattle.std.proofs.lemmas.List.FromFn.{length-map-range_with_len}
-use Rattle.smp_strata.specs.Clusters.{clusters, first_row, stratum_names, stratum_number}
-use Rattle.smp_strata.specs.Misfits.{first_found}
-use Rattle.smp_strata.specs.declared.strata.FirstUnit.{FirstUnit}
-use Rattle.smp_strata.specs.Kept.Built.{IsBuiltFirst, bare, second_short, so_far}
+use Rattle.smp_strata.specs.{Clusters.{clusters, first_row, stratum_names, stratum_number}, Misfits.{first_found}}
+use Rattle.smp_strata.specs.{declared.strata.FirstUnit.{FirstUnit}, Kept.Built.{IsBuiltFirst, bare, second_short, so_far}}
 use Rattle.smp_strata.specs.Kept.Layouts.{strata_homes}
-use Rattle.smp_strata.proofs.Founds.{found_from_place}
-use Rattle.smp_strata.proofs.Laid.{all_rows}
-use Rattle.smp_strata.proofs.Members.{none_large}
-use Rattle.smp_strata.proofs.MisfitOrder.{or_first, passed}
+use Rattle.smp_strata.proofs.{Founds.{found_from_place}, Laid.{all_rows}, Members.{none_large}, MisfitOrder.{or_first, passed}}
 use Rattle.smp_strata.proofs.Serving.{all_put, built, put_next, seconds_are}
 use Rattle.smp_strata.proofs.building.put_units.Goals as goal
 

@@ -1,7 +1,5 @@
 use Rattle.std.proofs.Common.{◌≡◌, ◌<◌, ℕ, [], drop, get_or, map}
-use Rattle.smp_strata.specs.Clusters.{strata_numbers}
-use Rattle.smp_strata.specs.Misfits.{first_found}
-use Rattle.smp_strata.specs.Kept.Built.{IsBuiltFirst, second_short, so_far}
+use Rattle.smp_strata.specs.{Clusters.{strata_numbers}, Misfits.{first_found}, Kept.Built.{IsBuiltFirst, second_short, so_far}}
 use Rattle.smp_strata.specs.Kept.Layouts.{strata_homes}
 use Rattle.smp_strata.proofs.building.put_units.Given as goal
 

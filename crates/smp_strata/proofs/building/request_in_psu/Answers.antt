@@ -1,13 +1,9 @@
-use Rattle.std.proofs.Common.{◌≡◌, ◌∙◌, ◌<◌, [], Err, ap, arith, length, refl, sym}
-use Rattle.std.proofs.lemmas.Bool.{le-ltb, lt-ltb}
+use Rattle.std.proofs.{Common.{◌≡◌, ◌∙◌, ◌<◌, [], Err, ap, arith, length, refl, sym}, lemmas.Bool.{le-ltb, lt-ltb}}
 use Rattle.std.proofs.lemmas.List.{get_or-map}
 use Rattle.smp_frame.specs.declared.frame.Unit as unit
 use Rattle.smp_prob.specs.Requested.{positive_units}
-use Rattle.smp_strata.specs.Clusters.{first_row}
-use Rattle.smp_strata.specs.Plans.{second_sizes}
-use Rattle.smp_strata.specs.Rows.{psu_at}
-use Rattle.smp_strata.proofs.Serving.{second_small}
-use Rattle.smp_strata.proofs.SizedRequests.{enough, few, sized}
+use Rattle.smp_strata.specs.{Clusters.{first_row}, Plans.{second_sizes}, Rows.{psu_at}}
+use Rattle.smp_strata.proofs.{Serving.{second_small}, SizedRequests.{enough, few, sized}}
 use Rattle.smp_strata.proofs.building.request_in_psu.Goals as goal
 
 pub requested-requires-clause-small : goal.requested-requires-clause-small

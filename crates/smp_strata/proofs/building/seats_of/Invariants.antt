@@ -1,6 +1,5 @@
 use Rattle.std.proofs.Common.{◌≡◌, ◌<◌, ℕ, length, get_or}
-use Rattle.smp_strata.specs.declared.strata.Seat.{Seat}
-use Rattle.smp_strata.specs.Kept.Built.{seat_by}
+use Rattle.smp_strata.specs.{declared.strata.Seat.{Seat}, Kept.Built.{seat_by}}
 use Rattle.smp_strata.proofs.building.seats_of.Given as goal
 
 abbrev pub invariant-loop-row : goal.invariant-loop-row

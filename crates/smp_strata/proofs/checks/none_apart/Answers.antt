@@ -1,17 +1,10 @@
 use Rattle.std.proofs.Common.{◌≡◌, ◌<◌, ◌∙◌, ap, sym, arith, length, not, refl, ℕ, List, [], true, false, rules, inl, inr}
 use Rattle.std.specs.Str.{bytes_eq}
-use Rattle.std.proofs.lemmas.Bool.{cases_eq}
-use Rattle.std.proofs.lemmas.List.{length-map, get_or-map}
-use Rattle.std.proofs.lemmas.List.FromFn.{length-map-range_with_len}
+use Rattle.std.proofs.{lemmas.Bool.{cases_eq}, lemmas.List.{length-map, get_or-map}, lemmas.List.FromFn.{length-map-range_with_len}}
 use Rattle.smp_frame.specs.declared.frame.Unit as unit
-use Rattle.smp_strata.specs.Clusters.{in_psu, psu_names}
-use Rattle.smp_strata.specs.Rows.{psu_at, stratum_at}
-use Rattle.smp_strata.specs.Misfits.{is_apart, when}
-use Rattle.smp_strata.specs.Kept.Layouts.{psu_number}
+use Rattle.smp_strata.specs.{Clusters.{in_psu, psu_names}, Rows.{psu_at, stratum_at}, Misfits.{is_apart, when}, Kept.Layouts.{psu_number}}
 use Rattle.smp_strata.specs.declared.misfit.Misfit.TheVariants.{UnitInTwo}
-use Rattle.smp_strata.proofs.Appearances.{same_text}
-use Rattle.smp_strata.proofs.ClusterRows.{number_at, psu_within}
-use Rattle.smp_strata.proofs.Founds.{none_more, found_at}
+use Rattle.smp_strata.proofs.{Appearances.{same_text}, ClusterRows.{number_at, psu_within}, Founds.{none_more, found_at}}
 use Rattle.smp_strata.proofs.Apart.{first_of, first_is, first_there, home_is, some_in, apart_is}
 use Rattle.smp_strata.proofs.checks.none_apart.Goals as goal
 

@@ -1,8 +1,6 @@
 use Rattle.std.proofs.Common.{◌≡◌, ◌<◌, ℕ, None}
 use Rattle.std.specs.List.{range_with_len}
-use Rattle.smp_strata.specs.Clusters.{first_row, in_psu}
-use Rattle.smp_strata.specs.Rows.{psu_at, stratum_at}
-use Rattle.smp_strata.specs.Misfits.{first_found, is_apart, when}
+use Rattle.smp_strata.specs.{Clusters.{first_row, in_psu}, Rows.{psu_at, stratum_at}, Misfits.{first_found, is_apart, when}}
 use Rattle.smp_strata.specs.declared.misfit.Misfit.TheVariants.{UnitInTwo}
 use Rattle.smp_strata.proofs.checks.none_apart.Given as goal
 

@@ -1,9 +1,6 @@
-use Rattle.std.proofs.Common.{◌≡◌, ◌∙◌, ◌<◌, [], arith, length, refl, sym}
-use Rattle.std.proofs.lemmas.List.{get_or-map}
+use Rattle.std.proofs.{Common.{◌≡◌, ◌∙◌, ◌<◌, [], arith, length, refl, sym}, lemmas.List.{get_or-map}}
 use Rattle.smp_frame.specs.declared.frame.Unit as unit
-use Rattle.smp_strata.specs.Clusters.{first_row}
-use Rattle.smp_strata.specs.Misfits.{when}
-use Rattle.smp_strata.specs.Rows.{is_large, psu_at}
+use Rattle.smp_strata.specs.{Clusters.{first_row}, Misfits.{when}, Rows.{is_large, psu_at}}
 use Rattle.smp_strata.specs.declared.misfit.Misfit.TheVariants.{PsuTooLarge}
 use Rattle.smp_strata.proofs.Founds.{found_from_place}
 use Rattle.smp_strata.proofs.checks.none_too_large.Goals as goal

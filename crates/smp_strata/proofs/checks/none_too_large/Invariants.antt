@@ -1,7 +1,5 @@
 use Rattle.std.proofs.Common.{◌≡◌, drop}
-use Rattle.smp_strata.specs.Rows.{is_large, psu_at}
-use Rattle.smp_strata.specs.Clusters.{first_row}
-use Rattle.smp_strata.specs.Misfits.{first_found, when}
+use Rattle.smp_strata.specs.{Rows.{is_large, psu_at}, Clusters.{first_row}, Misfits.{first_found, when}}
 use Rattle.smp_strata.specs.declared.misfit.Misfit.TheVariants.{PsuTooLarge}
 use Rattle.smp_strata.proofs.checks.none_too_large.Given as goal
 

@@ -1,5 +1,4 @@
-use Rattle.std.proofs.Common.{ℕ, List, [], arith, sym}
-use Rattle.std.proofs.lemmas.List.FromFn.{map-range_with_len_more}
+use Rattle.std.proofs.{Common.{ℕ, List, [], arith, sym}, lemmas.List.FromFn.{map-range_with_len_more}}
 use Rattle.smp_strata.proofs.groups.empty_groups.Goals as goal
 
 pub loop-number-preserved : goal.loop-number-preserved

@@ -1,5 +1,4 @@
-use Rattle.std.proofs.Common.{arith, refl, ◌∙◌, ap, length, get_or}
-use Rattle.std.proofs.lemmas.List.{length_push}
+use Rattle.std.proofs.{Common.{arith, refl, ◌∙◌, ap, length, get_or}, lemmas.List.{length_push}}
 use Rattle.std.proofs.lemmas.List.FromFn.{length-map-range_with_len}
 use Rattle.smp_strata.specs.Kept.Groups.{places_below}
 use Rattle.smp_strata.proofs.Grouped.{put, put_among, group_at}

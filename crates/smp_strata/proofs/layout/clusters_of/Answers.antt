@@ -1,6 +1,5 @@
-use Rattle.std.proofs.Common.{◌∙◌, None, ap, length, sym}
+use Rattle.std.proofs.{Common.{◌∙◌, None, ap, length, sym}, lemmas.List.FromFn.{length-map-range_with_len, length-range_with_len}}
 use Rattle.std.specs.List.{range_with_len}
-use Rattle.std.proofs.lemmas.List.FromFn.{length-map-range_with_len, length-range_with_len}
 use Rattle.smp_strata.specs.Kept.Groups.{places_of}
 use Rattle.smp_strata.proofs.ClusterRows.{alone_groups, are_rows, homes_within, psus_are}
 use Rattle.smp_strata.proofs.layout.clusters_of.Goals as goal

@@ -1,5 +1,4 @@
-use Rattle.std.proofs.Common.{length, map}
-use Rattle.std.proofs.lemmas.List.{length-map}
+use Rattle.std.proofs.{Common.{length, map}, lemmas.List.{length-map}}
 use Rattle.smp_frame.specs.declared.frame.Unit as unit
 use Rattle.smp_strata.proofs.RowNumbers.{numbers_by_places}
 use Rattle.smp_strata.proofs.layout.numbered_strata.Goals as goal

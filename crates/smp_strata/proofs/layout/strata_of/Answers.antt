@@ -1,8 +1,6 @@
-use Rattle.std.proofs.Common.{◌≡◌, ◌∙◌, ap, sym, length, rules}
+use Rattle.std.proofs.{Common.{◌≡◌, ◌∙◌, ap, sym, length, rules}, lemmas.List.FromFn.{length-map-range_with_len}}
 use Rattle.std.specs.Vec.{vec_len}
-use Rattle.std.proofs.lemmas.List.FromFn.{length-map-range_with_len}
-use Rattle.smp_strata.specs.Clusters.{stratum_number, stratum_names}
-use Rattle.smp_strata.specs.Kept.Layouts.{strata_homes}
+use Rattle.smp_strata.specs.{Clusters.{stratum_number, stratum_names}, Kept.Layouts.{strata_homes}}
 use Rattle.smp_strata.proofs.ClusterRows.{strata_homes_are, strata_homes_within}
 use Rattle.smp_strata.proofs.layout.strata_of.Goals as goal
 

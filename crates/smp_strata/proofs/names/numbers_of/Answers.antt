@@ -1,5 +1,4 @@
-use Rattle.smp_strata.proofs.Appearances.{none_seen}
-use Rattle.smp_strata.proofs.Texts.{taken, numbered}
+use Rattle.smp_strata.proofs.{Appearances.{none_seen}, Texts.{taken, numbered}}
 use Rattle.smp_strata.proofs.names.numbers_of.Goals as goal
 
 pub loop-text-init : goal.loop-text-init

@@ -1,6 +1,5 @@
 use Rattle.std.proofs.Common.{◌≡◌, map, drop, take}
-use Rattle.std.specs.List.{position_or_len}
-use Rattle.std.specs.Str.{bytes_eq}
+use Rattle.std.specs.{List.{position_or_len}, Str.{bytes_eq}}
 use Rattle.smp_strata.specs.Appearances.{distinct}
 use Rattle.smp_strata.proofs.Appearances.{with_new}
 use Rattle.smp_strata.proofs.names.numbers_of.Given as goal

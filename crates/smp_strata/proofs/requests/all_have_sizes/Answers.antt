@@ -1,8 +1,5 @@
-use Rattle.std.proofs.Common.{◌≡◌, ◌∙◌, nat_eq, get_or, [], refl}
-use Rattle.std.proofs.lemmas.Bool.{ne_eqb}
-use Rattle.std.proofs.lemmas.List.{get_or_default}
-use Rattle.smp_strata.specs.Misfits.{when}
-use Rattle.smp_strata.specs.declared.misfit.Misfit.TheVariants.{NoSize}
+use Rattle.std.proofs.{Common.{◌≡◌, ◌∙◌, nat_eq, get_or, [], refl}, lemmas.Bool.{ne_eqb}, lemmas.List.{get_or_default}}
+use Rattle.smp_strata.specs.{Misfits.{when}, declared.misfit.Misfit.TheVariants.{NoSize}}
 use Rattle.smp_strata.proofs.Founds.{none_more, found_at}
 use Rattle.smp_strata.proofs.requests.all_have_sizes.Goals as goal
 

@@ -1,7 +1,6 @@
 use Rattle.std.proofs.Common.{◌≡◌, None, [], nat_eq, get_or}
 use Rattle.std.specs.List.{range_with_len}
-use Rattle.smp_strata.specs.Misfits.{first_found, when}
-use Rattle.smp_strata.specs.declared.misfit.Misfit.TheVariants.{NoSize}
+use Rattle.smp_strata.specs.{Misfits.{first_found, when}, declared.misfit.Misfit.TheVariants.{NoSize}}
 use Rattle.smp_strata.proofs.requests.all_have_sizes.Given as goal
 
 abbrev pub invariant-loop-stratum : goal.invariant-loop-stratum

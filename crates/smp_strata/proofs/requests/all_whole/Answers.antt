@@ -1,6 +1,4 @@
-use Rattle.std.proofs.Common.{◌≡◌, ◌∙◌, [], arith, get_or, length, refl, sym}
-use Rattle.std.proofs.lemmas.Bool.{eq-eqb, ne_eqb}
-use Rattle.std.proofs.lemmas.List.{get_or_default}
+use Rattle.std.proofs.{Common.{◌≡◌, ◌∙◌, [], arith, get_or, length, refl, sym}, lemmas.Bool.{eq-eqb, ne_eqb}, lemmas.List.{get_or_default}}
 use Rattle.smp_strata.specs.Misfits.{unwhole}
 use Rattle.smp_strata.proofs.Founds.{none_more, found_at}
 use Rattle.smp_strata.proofs.requests.all_whole.Goals as goal

@@ -1,6 +1,5 @@
 use Rattle.std.proofs.Common.{refl}
-use Rattle.smp_strata.proofs.FirstRequests.{sum_is}
-use Rattle.smp_strata.proofs.GivenRequests.{common, too_large}
+use Rattle.smp_strata.proofs.{FirstRequests.{sum_is}, GivenRequests.{common, too_large}}
 use Rattle.smp_strata.proofs.requests.given_request.Goals as goal
 
 pub returns-in-Ok-clause-misfit : goal.returns-in-Ok-clause-misfit

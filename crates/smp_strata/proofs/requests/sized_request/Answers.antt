@@ -1,5 +1,4 @@
-use Rattle.std.proofs.Common.{Err, ap, refl}
-use Rattle.std.proofs.lemmas.Bool.{le-ltb, lt-ltb}
+use Rattle.std.proofs.{Common.{Err, ap, refl}, lemmas.Bool.{le-ltb, lt-ltb}}
 use Rattle.smp_prob.specs.Requested.{positive_units}
 use Rattle.smp_strata.proofs.SizedRequests.{enough, few, sized}
 use Rattle.smp_strata.proofs.requests.sized_request.Goals as goal

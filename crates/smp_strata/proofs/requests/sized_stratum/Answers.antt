@@ -1,5 +1,4 @@
-use Rattle.std.proofs.Common.{◌<◌, ◌^◌, get_or}
-use Rattle.std.proofs.lemmas.List.Elements.{All-map}
+use Rattle.std.proofs.{Common.{◌<◌, ◌^◌, get_or}, lemmas.List.Elements.{All-map}}
 use Rattle.smp_strata.proofs.requests.sized_stratum.Goals as goal
 
 pub sized_request-requires-clause-small : goal.sized_request-requires-clause-small

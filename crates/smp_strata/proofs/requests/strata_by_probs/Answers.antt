@@ -1,20 +1,12 @@
 use Rattle.std.proofs.Common.{◌≡◌, ◌∙◌, map, nat_lt, sym, refl, rules, arith, length, true, false, Global, Vec, None, Some, Err, [], inl, inr, ap}
 use Rattle.std.specs.List.{range_with_len}
-use Rattle.std.proofs.lemmas.Bool.{cases_eq}
-use Rattle.std.proofs.lemmas.List.FromFn.{length-map-range_with_len, map-range_with_len_more}
+use Rattle.std.proofs.{lemmas.Bool.{cases_eq}, lemmas.List.FromFn.{length-map-range_with_len, map-range_with_len_more}}
 use Rattle.smp_design.specs.Words.{row}
-use Rattle.smp_prob.specs.Given.{common_multiple, largest_multiple}
-use Rattle.smp_prob.specs.declared.probabilities.GivenRequest.{GivenRequest}
-use Rattle.smp_strata.specs.Clusters.{stratum_name, stratum_names}
-use Rattle.smp_strata.specs.Misfits.{denominator, not_whole, sum_of, when}
-use Rattle.smp_strata.specs.Plans.{first_probs}
-use Rattle.smp_strata.specs.declared.begun.Begun.{Begun}
-use Rattle.smp_strata.specs.declared.misfit.Misfit.TheVariants.{Denominator}
-use Rattle.smp_strata.specs.Kept.Built.{bare}
-use Rattle.smp_strata.proofs.FirstRequests.{by_given, given_is, given_probs, is_stratum}
-use Rattle.smp_strata.proofs.Founds.{found_at, neither, none_more}
-use Rattle.smp_strata.proofs.Laid.{all_looked_at, all_rows, here, in_members, members_within, name, probs, there}
-use Rattle.smp_strata.proofs.Members.{wholes_are}
+use Rattle.smp_prob.specs.{Given.{common_multiple, largest_multiple}, declared.probabilities.GivenRequest.{GivenRequest}}
+use Rattle.smp_strata.specs.{Clusters.{stratum_name, stratum_names}, Misfits.{denominator, not_whole, sum_of, when}, Plans.{first_probs}}
+use Rattle.smp_strata.specs.{declared.begun.Begun.{Begun}, declared.misfit.Misfit.TheVariants.{Denominator}, Kept.Built.{bare}}
+use Rattle.smp_strata.proofs.{FirstRequests.{by_given, given_is, given_probs, is_stratum}, Founds.{found_at, neither, none_more}}
+use Rattle.smp_strata.proofs.{Laid.{all_looked_at, all_rows, here, in_members, members_within, name, probs, there}, Members.{wholes_are}}
 use Rattle.smp_strata.proofs.MisfitOrder.{or_first, or_then, passed}
 use Rattle.smp_strata.proofs.requests.strata_by_probs.Goals.{then-draws_whole+in_ok-all_whole, else-draws_whole}
 use Rattle.smp_strata.proofs.requests.strata_by_probs.Goals as goal

@@ -1,11 +1,8 @@
 use Rattle.std.proofs.Common.{◌≡◌, ◌<◌, ℕ, None, map, nat_lt}
 use Rattle.std.specs.List.{range_with_len}
 use Rattle.smp_prob.specs.Given.{common_multiple, largest_multiple}
-use Rattle.smp_strata.specs.Clusters.{stratum_name}
-use Rattle.smp_strata.specs.Misfits.{first_found, sum_of, when}
-use Rattle.smp_strata.specs.Plans.{first_probs, request_by}
-use Rattle.smp_strata.specs.declared.misfit.Misfit.TheVariants.{Denominator}
-use Rattle.smp_strata.specs.Kept.Built.{IsGivenRequest, bare}
+use Rattle.smp_strata.specs.{Clusters.{stratum_name}, Misfits.{first_found, sum_of, when}, Plans.{first_probs, request_by}}
+use Rattle.smp_strata.specs.{declared.misfit.Misfit.TheVariants.{Denominator}, Kept.Built.{IsGivenRequest, bare}}
 use Rattle.smp_strata.proofs.requests.strata_by_probs.Given as goal
 
 abbrev pub invariant-loop-stratum : goal.invariant-loop-stratum

@@ -1,23 +1,14 @@
 use Rattle.std.proofs.Common.{◌≡◌, ◌∙◌, ◌<◌, ◌^◌, ℕ, List, map, sym, refl, rules, arith, length, Global, Vec, None, Some, Err, inl, inr}
 use Rattle.std.specs.Vec.{vec_len}
-use Rattle.std.proofs.lemmas.Bool.{cases_eq}
-use Rattle.std.proofs.lemmas.List.{length-map}
-use Rattle.std.proofs.lemmas.List.Elements.{All-map}
+use Rattle.std.proofs.{lemmas.Bool.{cases_eq}, lemmas.List.{length-map}, lemmas.List.Elements.{All-map}}
 use Rattle.std.proofs.lemmas.List.FromFn.{map-range_with_len_more}
 use Rattle.smp_design.specs.declared.design.Design.{Design}
 use Rattle.smp_frame.specs.declared.frame.Unit as unit
-use Rattle.smp_strata.specs.Rows.{size_of}
-use Rattle.smp_strata.specs.Clusters.{clusters, stratum_name, stratum_names}
-use Rattle.smp_strata.specs.Plans.{first_sizes, sample_size, sample_sizes, sizes_by}
-use Rattle.smp_strata.specs.Kept.Built.{bare}
-use Rattle.smp_strata.specs.Kept.Layouts.{IsLaidOut}
-use Rattle.smp_strata.specs.declared.begun.Begun.{Begun}
-use Rattle.smp_strata.specs.declared.layout.Strata.{Strata}
-use Rattle.smp_strata.specs.Misfits.{no_size, short}
-use Rattle.smp_strata.proofs.Totals.{how_many}
-use Rattle.smp_strata.proofs.Members.{count_all, length_samples, names_few, sizes_small, some_all, total_is}
-use Rattle.smp_strata.proofs.FirstRequests.{asked, by_sizes, enough_positive, is_stratum, some_size}
-use Rattle.smp_strata.proofs.Founds.{found_at, none_more}
+use Rattle.smp_strata.specs.{Rows.{size_of}, Clusters.{clusters, stratum_name, stratum_names}, Kept.Built.{bare}, Kept.Layouts.{IsLaidOut}}
+use Rattle.smp_strata.specs.{Plans.{first_sizes, sample_size, sample_sizes, sizes_by}, declared.begun.Begun.{Begun}}
+use Rattle.smp_strata.specs.{declared.layout.Strata.{Strata}, Misfits.{no_size, short}}
+use Rattle.smp_strata.proofs.{Totals.{how_many}, Members.{count_all, length_samples, names_few, sizes_small, some_all, total_is}}
+use Rattle.smp_strata.proofs.{FirstRequests.{asked, by_sizes, enough_positive, is_stratum, some_size}, Founds.{found_at, none_more}}
 use Rattle.smp_strata.proofs.Laid.{all_looked_at, all_rows, counts, groups, here, in_members, members_few, members_within, name, sample, sampled, sizes, there}
 use Rattle.smp_strata.proofs.MisfitOrder.{or_first, or_then, passed}
 use Rattle.smp_strata.proofs.requests.strata_by_sizes.Goals as goal

@@ -1,8 +1,6 @@
 use Rattle.std.proofs.Common.{◌≡◌, ◌<◌, ℕ, None, map}
 use Rattle.std.specs.List.{range_with_len}
-use Rattle.smp_strata.specs.Clusters.{stratum_name}
-use Rattle.smp_strata.specs.Misfits.{first_found, short}
-use Rattle.smp_strata.specs.Plans.{first_sizes, request_by, sample_size}
+use Rattle.smp_strata.specs.{Clusters.{stratum_name}, Misfits.{first_found, short}, Plans.{first_sizes, request_by, sample_size}}
 use Rattle.smp_strata.specs.Kept.Built.{IsFirstRequest, bare}
 use Rattle.smp_strata.proofs.requests.strata_by_sizes.Given as goal
 

@@ -1,5 +1,4 @@
-use Rattle.std.proofs.Common.{◌<◌, [], arith, length, sym}
-use Rattle.std.proofs.lemmas.List.{map_more}
+use Rattle.std.proofs.{Common.{◌<◌, [], arith, length, sym}, lemmas.List.{map_more}}
 use Rattle.smp_strata.specs.Rows as Rows
 use Rattle.smp_strata.proofs.sizes.cluster_sizes.Goals as goal
 

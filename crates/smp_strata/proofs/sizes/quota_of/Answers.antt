@@ -1,5 +1,4 @@
-use Rattle.std.proofs.Common.{rules}
-use Rattle.std.proofs.lemmas.Fn.{always_returns_same}
+use Rattle.std.proofs.{Common.{rules}, lemmas.Fn.{always_returns_same}}
 use Rattle.smp_strata.proofs.QuotaSearch.{order, rises, found, not_at}
 use Rattle.smp_strata.proofs.sizes.quota_of.Goals as goal
 

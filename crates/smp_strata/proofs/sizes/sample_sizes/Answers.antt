@@ -1,6 +1,4 @@
-use Rattle.std.proofs.Common.{arith, length}
-use Rattle.std.proofs.lemmas.List.{length-map}
-use Rattle.std.proofs.lemmas.List.Sums.{get_or-le-sum_by, sum-map}
+use Rattle.std.proofs.{Common.{arith, length}, lemmas.List.{length-map}, lemmas.List.Sums.{get_or-le-sum_by, sum-map}}
 use Rattle.smp_strata.proofs.sizes.sample_sizes.Goals as goal
 
 pub lengths-requires : goal.lengths-requires

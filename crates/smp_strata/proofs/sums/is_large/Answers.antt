@@ -1,5 +1,4 @@
-use Rattle.std.proofs.Common.{rules, SFits, w64, sym, ◌∙◌}
-use Rattle.std.proofs.lemmas.Int.{to_z-of_z}
+use Rattle.std.proofs.{Common.{rules, SFits, w64, sym, ◌∙◌}, lemmas.Int.{to_z-of_z}}
 use Rattle.smp_strata.proofs.Columns.{large_by_column, none_more}
 use Rattle.smp_strata.proofs.sums.is_large.Goals as goal
 

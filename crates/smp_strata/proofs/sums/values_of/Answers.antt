@@ -1,6 +1,4 @@
-use Rattle.std.proofs.Common.{arith, nat_abs, ◌<◌, ◌^◌}
-use Rattle.std.proofs.lemmas.Int.{ints, to_z-of_z}
-use Rattle.std.proofs.lemmas.List.FromFn.{map-range_with_len_more}
+use Rattle.std.proofs.{Common.{arith, nat_abs, ◌<◌, ◌^◌}, lemmas.Int.{ints, to_z-of_z}, lemmas.List.FromFn.{map-range_with_len_more}}
 use Rattle.smp_strata.specs.Rows as Rows
 use Rattle.smp_strata.proofs.Columns.{small_value}
 use Rattle.smp_strata.proofs.sums.values_of.Goals as goal

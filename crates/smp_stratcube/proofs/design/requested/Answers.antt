@@ -1,9 +1,6 @@
-use Rattle.std.proofs.Common.{◌<◌, ◌++◌, ◌∷◌, [], List, map, take, length, get_or, arith, sym, ap, ap₂, ◌∙◌}
-use Rattle.std.proofs.lemmas.List.{take_more}
+use Rattle.std.proofs.{Common.{◌<◌, ◌++◌, ◌∷◌, [], List, map, take, length, get_or, arith, sym, ap, ap₂, ◌∙◌}, lemmas.List.{take_more}}
 use Rattle.smp_kernel.proofs.Lists.{map_last}
-use Rattle.smp_stratcube.specs.declared.values.Value.{Value}
-use Rattle.smp_stratcube.specs.Units.{nobody}
-use Rattle.smp_stratcube.specs.Kept.States.{requested_value}
+use Rattle.smp_stratcube.specs.{declared.values.Value.{Value}, Units.{nobody}, Kept.States.{requested_value}}
 use Rattle.smp_stratcube.proofs.design.requested.Goals as goal
 
 pub loop-unit-preserved : goal.loop-unit-preserved

@@ -1,5 +1,4 @@
-use Rattle.std.proofs.Common.{arith, ◌≡◌, ◌≤◌, ◌^◌, ℕ, List, pos, take, length, ap, ◌∙◌, subst, inl, inr}
-use Rattle.std.proofs.lemmas.Bool.{cases_lt}
+use Rattle.std.proofs.{Common.{arith, ◌≡◌, ◌≤◌, ◌^◌, ℕ, List, pos, take, length, ap, ◌∙◌, subst, inl, inr}, lemmas.Bool.{cases_lt}}
 use Rattle.std.proofs.lemmas.List.{get_or_past}
 use Rattle.smp_kernel.specs.Vectors.{entry, IsZero}
 use Rattle.smp_moves.proofs.FirstPlaces.{past_reduced, zero_front}

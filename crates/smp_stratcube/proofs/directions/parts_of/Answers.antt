@@ -1,14 +1,10 @@
 use Rattle.std.proofs.Common.{SFits, rules, ◌≡◌, ℕ, ◌<◌, List, length, get_or, set, length-set, arith, inl, inr, sym, subst}
 use mir.Syntax.{w64}
-use Rattle.std.proofs.lemmas.Bool.{cases_eq}
-use Rattle.std.proofs.lemmas.Int.{to_z-of_z}
-use Rattle.std.proofs.lemmas.List.{get_or-set_same, get_or-set_other}
+use Rattle.std.proofs.{lemmas.Bool.{cases_eq}, lemmas.Int.{to_z-of_z}, lemmas.List.{get_or-set_same, get_or-set_other}}
 use Rattle.smp_kernel.specs.Vectors.{entry}
 use Rattle.smp_kernel.proofs.Lists.{each_more}
-use Rattle.smp_moves.specs.declared.lines.Ratio.{Ratio}
-use Rattle.smp_stratcube.specs.Units.{share}
-use Rattle.smp_moves.specs.Steps.{product}
-use Rattle.smp_stratcube.specs.Kept.Lines.{IsPart, no_part, part}
+use Rattle.smp_moves.specs.{declared.lines.Ratio.{Ratio}, Steps.{product}}
+use Rattle.smp_stratcube.specs.{Units.{share}, Kept.Lines.{IsPart, no_part, part}}
 use Rattle.smp_stratcube.proofs.directions.parts_of.Goals as goal
 
 pub loop-place-preserved : goal.loop-place-preserved

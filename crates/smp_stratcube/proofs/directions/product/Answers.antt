@@ -1,6 +1,5 @@
-use Rattle.std.proofs.Common.{SFits, rules, ◌≡◌, ℕ, ◌*◌, sym, subst}
+use Rattle.std.proofs.{Common.{SFits, rules, ◌≡◌, ℕ, ◌*◌, sym, subst}, lemmas.Int.{to_z-of_z}}
 use mir.Syntax.{w64}
-use Rattle.std.proofs.lemmas.Int.{to_z-of_z}
 use Rattle.std.specs.Int.RustNames.{unsigned_abs}
 use Rattle.smp_moves.specs.Ends.{lowest}
 use Rattle.smp_stratcube.specs.Kept.Lines.{IsPart}

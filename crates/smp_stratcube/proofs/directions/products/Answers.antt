@@ -1,13 +1,11 @@
 use Rattle.std.proofs.Common.{SFits, rules, arith, ◌≡◌, ℕ, ℤ, List, ◌≤◌, ◌^◌, pos, length, set, length-set, inl, inr, sym, ◌∙◌, subst}
 use mir.Syntax.{w64, w128}
-use Rattle.std.proofs.lemmas.Bool.{cases_eq, cases_lt}
-use Rattle.std.proofs.lemmas.Int.{to_z-of_z, ints}
+use Rattle.std.proofs.{lemmas.Bool.{cases_eq, cases_lt}, lemmas.Int.{to_z-of_z, ints}, lemmas.List.Elements.{All-from_get_or}}
 use Rattle.std.proofs.lemmas.List.{get_or-set_same, get_or-set_other, get_or_past}
 use Rattle.smp_kernel.specs.Vectors.{entry}
 use Rattle.smp_kernel.proofs.Lists.{each_more}
 use Rattle.smp_moves.specs.Steps.{signed}
 use Rattle.smp_stratcube.specs.Kept.Lines.{over, part}
-use Rattle.std.proofs.lemmas.List.Elements.{All-from_get_or}
 use Rattle.std.specs.Int.RustNames.{unsigned_abs}
 use Rattle.smp_stratcube.proofs.Directed.{over_most}
 use Rattle.smp_stratcube.proofs.directions.products.Goals as goal

@@ -2,8 +2,7 @@ use Rattle.std.proofs.Common.{◌≡◌, ◌+◌, Some, List, map, arith, sym, a
 use Rattle.smp_moves.specs.declared.lines.Ratio.{Ratio}
 use Rattle.smp_moves.proofs.Places.{rest_all, rest_at, rest_none, rest_of}
 use Rattle.smp_stratcube.specs.Kept.Lines.{no_part}
-use Rattle.smp_stratcube.proofs.Gated.{gate_all}
-use Rattle.smp_stratcube.proofs.Directed.{scale_held}
+use Rattle.smp_stratcube.proofs.{Gated.{gate_all}, Directed.{scale_held}}
 use Rattle.smp_stratcube.proofs.directions.scale_of.Goals as goal
 
 pub loop-place-init : goal.loop-place-init

@@ -1,7 +1,6 @@
 use Rattle.std.proofs.Common.{◌≡◌, map, take}
-use Rattle.smp_moves.specs.declared.lines.Ratio.{Ratio}
+use Rattle.smp_moves.specs.{declared.lines.Ratio.{Ratio}, Steps.{common_multiple}}
 use Rattle.smp_moves.proofs.Places.{rest_of}
-use Rattle.smp_moves.specs.Steps.{common_multiple}
 use Rattle.smp_stratcube.specs.Kept.Gates.{IsSome, held}
 use Rattle.smp_stratcube.proofs.Gated.{gate_all}
 use Rattle.smp_stratcube.proofs.directions.scale_of.Given as goal

@@ -1,11 +1,7 @@
 use Rattle.std.proofs.Common.{◌≡◌, ◌+◌, map, arith, sym, ap, ◌∙◌}
 use Rattle.smp_moves.proofs.Places.{rest_all, rest_at, rest_none, rest_of}
-use Rattle.smp_stratcube.specs.Units.{first}
-use Rattle.smp_stratcube.specs.Kept.Gates.{gated, held}
-use Rattle.smp_stratcube.specs.Values.{common_of}
-use Rattle.smp_stratcube.proofs.Ahead.{front_inside}
-use Rattle.smp_stratcube.proofs.Ending.{line_held}
-use Rattle.smp_stratcube.proofs.Gated.{gate_all}
+use Rattle.smp_stratcube.specs.{Units.{first}, Kept.Gates.{gated, held}, Values.{common_of}}
+use Rattle.smp_stratcube.proofs.{Ahead.{front_inside}, Ending.{line_held}, Gated.{gate_all}}
 use Rattle.smp_stratcube.proofs.ends.denominator.Goals as goal
 
 pub gathered-common-requires-clause-within : goal.gathered-common-requires-clause-within

@@ -1,9 +1,7 @@
 use Rattle.std.proofs.Common.{◌≡◌, map}
 use Rattle.smp_moves.proofs.Places.{rest_of}
 use Rattle.smp_moves.specs.Answers.{line_of}
-use Rattle.smp_stratcube.specs.Units.{first}
-use Rattle.smp_stratcube.specs.Values.{common_of}
-use Rattle.smp_stratcube.specs.Kept.Gates.{IsSome, held}
+use Rattle.smp_stratcube.specs.{Units.{first}, Values.{common_of}, Kept.Gates.{IsSome, held}}
 use Rattle.smp_stratcube.proofs.Gated.{gate_all}
 use Rattle.smp_stratcube.proofs.ends.denominator.Given as goal
 

@@ -1,22 +1,13 @@
 use Rattle.std.proofs.Common.{SFits, rules, ◌≡◌, ◌+◌, ◌*◌, ◌/◌, ◌≤◌, ℕ, ℤ, Option, Some, length, mul-pos, arith, get_or, sym, ap, ap₂, ◌∙◌, subst}
-use Rattle.std.proofs.lemmas.Int.{to_z-of_z}
-use Rattle.std.proofs.lemmas.Nat.Gcd.{dvd_refl}
-use Rattle.std.proofs.Math.Nat.{pos_of_dvd_of_pos}
+use Rattle.std.proofs.{lemmas.Int.{to_z-of_z}, lemmas.Nat.Gcd.{dvd_refl}, Math.Nat.{pos_of_dvd_of_pos}}
 use mir.Syntax.{w64}
 use Rattle.std.specs.Option.{is_some}
 use Rattle.smp_frac.specs.Laws.Coprime.{part_positive}
-use Rattle.smp_moves.specs.Answers.{line_of}
-use Rattle.smp_moves.specs.Moves.{entry_of}
-use Rattle.smp_moves.specs.Kept.Ends.{CanMove}
+use Rattle.smp_moves.specs.{Answers.{line_of}, Moves.{entry_of}, Kept.Ends.{CanMove}}
 use Rattle.smp_moves.proofs.Places.{rest_all, rest_at, rest_none, rest_of}
-use Rattle.smp_stratcube.specs.declared.values.Value.{Value}
-use Rattle.smp_stratcube.specs.Units.{first}
-use Rattle.smp_stratcube.specs.Values.{IsValue, value}
+use Rattle.smp_stratcube.specs.{declared.values.Value.{Value}, Units.{first}, Values.{IsValue, value}, Kept.Moves.{joined, moved_value}}
 use Rattle.smp_stratcube.specs.Kept.Gates.{gated, gathered, with_unit}
-use Rattle.smp_stratcube.specs.Kept.Moves.{joined, moved_value}
-use Rattle.smp_stratcube.proofs.Ending.{can_move}
-use Rattle.smp_stratcube.proofs.Parts.{read, unread}
-use Rattle.smp_stratcube.proofs.Sharing.{joined_start}
+use Rattle.smp_stratcube.proofs.{Ending.{can_move}, Parts.{read, unread}, Sharing.{joined_start}}
 use Rattle.smp_stratcube.proofs.ends.end_fits.Goals as goal
 
 pub loop-place-init : goal.loop-place-init

@@ -1,12 +1,8 @@
 use Rattle.std.proofs.Common.{◌≡◌, ◌*◌, Some}
 use Prim.Native.Nat.{◌∣◌}
-use Rattle.smp_moves.specs.Answers.{line_of}
-use Rattle.smp_moves.specs.Moves.{entry_of}
+use Rattle.smp_moves.specs.{Answers.{line_of}, Moves.{entry_of}}
 use Rattle.smp_moves.proofs.Places.{rest_of}
-use Rattle.smp_stratcube.specs.Values.{value}
-use Rattle.smp_stratcube.specs.Kept.Gates.{IsSome, gathered}
-use Rattle.smp_stratcube.specs.Kept.Fronts.{front_units}
-use Rattle.smp_stratcube.specs.Kept.Moves.{joined, moved_value}
+use Rattle.smp_stratcube.specs.{Values.{value}, Kept.Gates.{IsSome, gathered}, Kept.Fronts.{front_units}, Kept.Moves.{joined, moved_value}}
 use Rattle.smp_stratcube.proofs.ends.end_fits.Given as goal
 
 -- the common denominator so far, and the units that are left

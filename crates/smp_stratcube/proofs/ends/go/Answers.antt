@@ -1,17 +1,11 @@
 use Rattle.std.proofs.Common.{SFits, rules, ◌≡◌, ◌+◌, ◌*◌, ◌/◌, ◌<◌, ◌≤◌, ℤ, length, arith, get_or, set, length-set, refl, sym, ap, ap₂, ◌∙◌, subst}
-use Rattle.std.proofs.lemmas.Int.{to_z-of_z}
-use Rattle.std.proofs.lemmas.List.{get_or_read}
+use Rattle.std.proofs.{lemmas.Int.{to_z-of_z}, lemmas.List.{get_or_read}}
 use mir.Syntax.{w64}
 use Rattle.smp_kernel.specs.Vectors.{entry}
-use Rattle.smp_moves.specs.Answers.{line_of}
-use Rattle.smp_moves.specs.Moves.{entry_at, entry_of}
-use Rattle.smp_moves.specs.Kept.Ends.{CanMove}
+use Rattle.smp_moves.specs.{Answers.{line_of}, Moves.{entry_at, entry_of}, Kept.Ends.{CanMove}}
 use Rattle.smp_moves.proofs.Places.{rest_all, rest_none, rest_of}
-use Rattle.smp_stratcube.specs.declared.values.Value.{Value}
-use Rattle.smp_stratcube.specs.Values.{IsValue, nothing, value}
-use Rattle.smp_stratcube.specs.Kept.Moves.{moved_value}
-use Rattle.smp_stratcube.proofs.Ending.{can_move}
-use Rattle.smp_stratcube.proofs.Going.{entry_left, entry_on, gone_further, stays_left}
+use Rattle.smp_stratcube.specs.{declared.values.Value.{Value}, Values.{IsValue, nothing, value}, Kept.Moves.{moved_value}}
+use Rattle.smp_stratcube.proofs.{Ending.{can_move}, Going.{entry_left, entry_on, gone_further, stays_left}}
 use Rattle.smp_stratcube.proofs.ends.go.Goals as goal
 
 pub loop-place-init : goal.loop-place-init

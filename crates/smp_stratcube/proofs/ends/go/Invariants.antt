@@ -1,9 +1,7 @@
 use Rattle.std.proofs.Common.{◌≡◌, ℕ, ◌<◌, ◌≤◌, get_or, length}
-use Rattle.smp_moves.specs.Answers.{line_of}
-use Rattle.smp_moves.specs.Moves.{entry_at, entry_of}
+use Rattle.smp_moves.specs.{Answers.{line_of}, Moves.{entry_at, entry_of}}
 use Rattle.smp_moves.proofs.Places.{rest_of}
-use Rattle.smp_stratcube.specs.Values.{value}
-use Rattle.smp_stratcube.specs.Kept.Moves.{moved_value}
+use Rattle.smp_stratcube.specs.{Values.{value}, Kept.Moves.{moved_value}}
 use Rattle.smp_stratcube.proofs.ends.go.Given as goal
 
 -- the units that are left still have their values, and the others those at the end

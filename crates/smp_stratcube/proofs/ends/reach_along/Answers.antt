@@ -1,5 +1,4 @@
-use Rattle.std.proofs.Common.{SFits, rules, arith, ◌≡◌, get_or, sym, ◌∙◌, subst}
-use Rattle.std.proofs.lemmas.Int.{to_z-of_z}
+use Rattle.std.proofs.{Common.{SFits, rules, arith, ◌≡◌, get_or, sym, ◌∙◌, subst}, lemmas.Int.{to_z-of_z}}
 use mir.Syntax.{w64}
 use Rattle.smp_prob.specs.Shares.{Shares}
 use Rattle.smp_kernel.specs.Vectors.{entry}

@@ -1,6 +1,5 @@
 use Rattle.std.proofs.Common.{◌≡◌, ◌≤◌, ◌^◌}
-use Rattle.smp_moves.specs.Ends.{reach}
-use Rattle.smp_moves.specs.Answers.{line_of}
+use Rattle.smp_moves.specs.{Ends.{reach}, Answers.{line_of}}
 use Rattle.smp_moves.proofs.Places.{reach_left}
 use Rattle.smp_stratcube.specs.Values.{over_common}
 use Rattle.smp_stratcube.proofs.ends.reach_along.Given as goal

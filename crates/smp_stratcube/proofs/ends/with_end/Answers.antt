@@ -1,13 +1,9 @@
-use Rattle.std.proofs.Common.{SFits, rules, ◌≡◌, ◌≢◌, ℕ, ◌*◌, ◌/◌, pos, mul-pos, sym, ap, ◌∙◌}
-use Rattle.std.proofs.lemmas.Int.{to_z-of_z}
+use Rattle.std.proofs.{Common.{SFits, rules, ◌≡◌, ◌≢◌, ℕ, ◌*◌, ◌/◌, pos, mul-pos, sym, ap, ◌∙◌}, lemmas.Int.{to_z-of_z}}
 use mir.Syntax.{w64}
 use mir.Val.{of_z, to_z}
 use Rattle.smp_frac.specs.Laws.Coprime.{part_positive}
 use Rattle.smp_moves.specs.Ends.{advanced}
-use Rattle.smp_stratcube.specs.declared.values.Value.{Value}
-use Rattle.smp_stratcube.specs.Units.{first, stratum}
-use Rattle.smp_stratcube.specs.Kept.Gates.{gated, with_unit}
-use Rattle.smp_stratcube.specs.Kept.Moves.{joined}
+use Rattle.smp_stratcube.specs.{declared.values.Value.{Value}, Units.{first, stratum}, Kept.Gates.{gated, with_unit}, Kept.Moves.{joined}}
 use Rattle.smp_stratcube.proofs.Sharing.{joined_off, moved_over, moved_still}
 use Rattle.smp_stratcube.proofs.ends.with_end.Goals as goal
 

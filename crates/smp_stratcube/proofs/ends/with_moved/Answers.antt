@@ -1,9 +1,7 @@
-use Rattle.std.proofs.Common.{◌≡◌, ◌/◌, ℕ, Option, false, arith, ap, ◌∙◌}
-use Rattle.std.proofs.lemmas.Nat.Gcd.{dvd_trans}
+use Rattle.std.proofs.{Common.{◌≡◌, ◌/◌, ℕ, Option, false, arith, ap, ◌∙◌}, lemmas.Nat.Gcd.{dvd_trans}}
 use Rattle.smp_frac.specs.Divisors.{greatest_common_divisor}
 use Rattle.smp_values.specs.Values.{fractional}
-use Rattle.smp_stratcube.specs.Units.{first, stratum}
-use Rattle.smp_stratcube.specs.Kept.Gates.{gated}
+use Rattle.smp_stratcube.specs.{Units.{first, stratum}, Kept.Gates.{gated}}
 use Rattle.smp_stratcube.proofs.Sharing.{at_all, at_none, between, joined_on, joined_out}
 use Rattle.smp_stratcube.proofs.ends.with_moved.Goals as goal
 use Rattle.smp_stratcube.proofs.ends.with_moved.Goals.{then-number-eq0-via-then-number-eq0, then-number-eq0-via-else-number-eq0+then-full-number}

@@ -1,5 +1,4 @@
-use Rattle.std.proofs.Common.{◌+◌, ◌++◌, ◌∷◌, [], take, arith, length-set, sym, ap, ◌∙◌, append_assoc}
-use Rattle.std.proofs.lemmas.List.{take_more_set}
+use Rattle.std.proofs.{Common.{◌+◌, ◌++◌, ◌∷◌, [], take, arith, length-set, sym, ap, ◌∙◌, append_assoc}, lemmas.List.{take_more_set}}
 use Rattle.smp_stratcube.specs.Kept.Fronts.{units_on}
 use Rattle.smp_stratcube.proofs.Ahead.{units_here}
 use Rattle.smp_stratcube.proofs.fronts.filled.Goals as goal

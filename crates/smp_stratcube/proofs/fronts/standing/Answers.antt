@@ -1,11 +1,9 @@
 use Rattle.std.proofs.Common.{◌≡◌, get_or, arith, sym, refl, ap, ◌∙◌}
 use Rattle.smp_values.specs.Values.{fractional}
 use Rattle.smp_moves.proofs.Filtered.{kept_all, kept_in, kept_out, none_kept}
-use Rattle.smp_stratcube.specs.declared.values.Value.{Value}
-use Rattle.smp_stratcube.specs.Values.{is_fractional}
-use Rattle.smp_stratcube.proofs.Parts.{read}
+use Rattle.smp_stratcube.specs.{declared.values.Value.{Value}, Values.{is_fractional}}
+use Rattle.smp_stratcube.proofs.{Parts.{read}, fronts.standing.Goals.{then-is_fractional, else-is_fractional}}
 use Rattle.smp_stratcube.proofs.fronts.standing.Goals as goal
-use Rattle.smp_stratcube.proofs.fronts.standing.Goals.{then-is_fractional, else-is_fractional}
 
 pub loop-place-init : goal.loop-place-init
 loop-place-init c = record { kept = none_kept (is_fractional c.args.values.now) c.args.front.now.number c.args.front.now.units (omega (arith, c.requires.short)) _ (omega (arith, c.requires.short)); place = refl }

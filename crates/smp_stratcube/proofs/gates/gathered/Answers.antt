@@ -1,10 +1,7 @@
 use Rattle.std.proofs.Common.{◌≡◌, ◌+◌, Some, arith, get_or, sym, ap, ◌∙◌}
 use Rattle.smp_moves.proofs.Places.{rest_all, rest_at, rest_none, rest_of}
-use Rattle.smp_stratcube.specs.Units.{first}
-use Rattle.smp_stratcube.specs.declared.values.Value.{Value}
-use Rattle.smp_stratcube.specs.Values.{value}
+use Rattle.smp_stratcube.specs.{Units.{first}, declared.values.Value.{Value}, Values.{value}, Kept.Gates.{gathered, with_unit}}
 use Rattle.smp_stratcube.proofs.Parts.{read}
-use Rattle.smp_stratcube.specs.Kept.Gates.{gathered, with_unit}
 use Rattle.smp_stratcube.proofs.gates.gathered.Goals as goal
 
 pub loop-place-init : goal.loop-place-init

@@ -1,8 +1,6 @@
 use Rattle.std.proofs.Common.{◌≡◌, Some}
 use Rattle.smp_moves.proofs.Places.{rest_of}
-use Rattle.smp_stratcube.specs.Values.{value}
-use Rattle.smp_stratcube.specs.Kept.Gates.{IsSome, gathered}
-use Rattle.smp_stratcube.specs.Kept.Fronts.{front_units}
+use Rattle.smp_stratcube.specs.{Values.{value}, Kept.Gates.{IsSome, gathered}, Kept.Fronts.{front_units}}
 use Rattle.smp_stratcube.proofs.gates.gathered.Given as goal
 
 -- the common denominator so far, and the units that are left

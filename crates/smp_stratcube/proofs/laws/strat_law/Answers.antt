@@ -1,14 +1,8 @@
 use Rattle.std.proofs.Common.{refl}
 use Rattle.smp_split.specs.Trees.{Lawful}
-use Rattle.smp_stratcube.specs.Cube.{tree_by}
-use Rattle.smp_stratcube.specs.States.{IsBalancing}
-use Rattle.smp_stratcube.specs.Values.{fractional_units}
-use Rattle.smp_stratcube.specs.Moves.{Stepping}
-use Rattle.smp_stratcube.specs.Steps.{of_steps, stepping}
-use Rattle.smp_stratcube.proofs.BySteps.{counts_so, is_balanced}
-use Rattle.smp_stratcube.proofs.FirstPairs.{each_pair}
-use Rattle.smp_stratcube.proofs.OneStep.{one_next}
-use Rattle.smp_stratcube.specs.Laws.Splits.{strat_lawful}
+use Rattle.smp_stratcube.specs.{Cube.{tree_by}, States.{IsBalancing}, Values.{fractional_units}, Moves.{Stepping}}
+use Rattle.smp_stratcube.specs.{Steps.{of_steps, stepping}, Laws.Splits.{strat_lawful}}
+use Rattle.smp_stratcube.proofs.{BySteps.{counts_so, is_balanced}, FirstPairs.{each_pair}, OneStep.{one_next}}
 use Rattle.smp_stratcube.proofs.laws.strat_law.Goals as goal
 
 pub returns : goal.returns

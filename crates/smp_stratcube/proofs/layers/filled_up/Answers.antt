@@ -1,6 +1,5 @@
-use Rattle.std.proofs.Common.{SFits, rules, arith, ◌≡◌, ℤ, pos, refl, ◌∙◌, length-set}
+use Rattle.std.proofs.{Common.{SFits, rules, arith, ◌≡◌, ℤ, pos, refl, ◌∙◌, length-set}, lemmas.Int.{to_z-of_z}}
 use mir.Syntax.{w32}
-use Rattle.std.proofs.lemmas.Int.{to_z-of_z}
 use Rattle.std.proofs.lemmas.List.{get_or-set_other}
 use Rattle.smp_kernel.specs.Vectors.{entry}
 use Rattle.smp_kernel.proofs.Lists.{each_more}

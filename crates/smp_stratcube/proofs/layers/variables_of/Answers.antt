@@ -1,5 +1,4 @@
-use Rattle.std.proofs.Common.{◌≡◌, ◌<◌, nat_eq, true, false, [], length, arith, sym, ap, ◌∙◌}
-use Rattle.std.proofs.lemmas.Bool.{eqb-false, eqb-true}
+use Rattle.std.proofs.{Common.{◌≡◌, ◌<◌, nat_eq, true, false, [], length, arith, sym, ap, ◌∙◌}, lemmas.Bool.{eqb-false, eqb-true}}
 use Rattle.std.proofs.lemmas.List.{get_or_past, get_or_read}
 use Rattle.smp_stratcube.proofs.layers.variables_of.Goals as goal
 

@@ -1,8 +1,6 @@
-use Rattle.std.proofs.Common.{◌≡◌, ◌+◌, ◌<◌, ◌≤◌, ◌^◌, ℕ, List, length, get_or, arith, sym, ap, ◌∙◌, subst}
-use Rattle.std.proofs.lemmas.List.{get_or_default}
+use Rattle.std.proofs.{Common.{◌≡◌, ◌+◌, ◌<◌, ◌≤◌, ◌^◌, ℕ, List, length, get_or, arith, sym, ap, ◌∙◌, subst}, lemmas.List.{get_or_default}}
 use Rattle.smp_prob.specs.Given.{least_multiple}
-use Rattle.smp_stratcube.specs.declared.units.Member.{Member}
-use Rattle.smp_stratcube.specs.Units.{nobody}
+use Rattle.smp_stratcube.specs.{declared.units.Member.{Member}, Units.{nobody}}
 use Rattle.smp_stratcube.proofs.Behinds.{alone_behind, fits_behind, same_behind, some_behind, unread}
 use Rattle.smp_stratcube.proofs.making.behind.Goals as goal
 use Rattle.smp_stratcube.proofs.making.behind.Goals.{else-unit-members-via-then-unit-members+else-members-unit, else-unit-members-via-else-unit-members}

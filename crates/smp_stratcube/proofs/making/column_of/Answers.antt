@@ -1,8 +1,6 @@
 use Rattle.std.proofs.Common.{SFits, rules, arith, ◌≡◌, ◌+◌, ◌<◌, to_z, ℕ, ℤ, pos, take, length, sym, ◌∙◌, inl, inr, length-set, length-take, get_or-take, set, subst}
 use mir.Syntax.{w32}
-use Rattle.std.proofs.lemmas.Bool.{cases_lt}
-use Rattle.std.proofs.lemmas.Int.{to_z-of_z, to_z_pos}
-use Rattle.std.proofs.lemmas.List.{get_or-set_other, get_or-set_same}
+use Rattle.std.proofs.{lemmas.Bool.{cases_lt}, lemmas.Int.{to_z-of_z, to_z_pos}, lemmas.List.{get_or-set_other, get_or-set_same}}
 use Rattle.smp_kernel.specs.Vectors.{entry}
 use Rattle.smp_stratcube.proofs.Stored.{column_is, is_first}
 use Rattle.smp_stratcube.proofs.making.column_of.Goals as goal

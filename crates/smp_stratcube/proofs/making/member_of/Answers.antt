@@ -1,9 +1,7 @@
 use Rattle.std.proofs.Common.{rules, arith, ◌≡◌, ◌*◌, ◌<◌, ◌^◌, ℕ, List, ℤ, [], map, take, length, get_or, sym, ap, ap₂, ◌∙◌}
 use Rattle.std.proofs.lemmas.List.{get_or-map, get_or_read, length-map}
-use Rattle.smp_moves.specs.declared.lines.Ratio.{Ratio}
-use Rattle.smp_moves.specs.Ends.{lowest}
-use Rattle.smp_stratcube.specs.Layers.{Layer}
-use Rattle.smp_stratcube.specs.Units.{column_of, member_of}
+use Rattle.smp_moves.specs.{declared.lines.Ratio.{Ratio}, Ends.{lowest}}
+use Rattle.smp_stratcube.specs.{Layers.{Layer}, Units.{column_of, member_of}}
 use Rattle.smp_stratcube.proofs.making.member_of.Goals as goal
 
 pub column_of-requires-clause-size : goal.column_of-requires-clause-size

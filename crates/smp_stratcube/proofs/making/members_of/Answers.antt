@@ -2,9 +2,7 @@ use Rattle.std.proofs.Common.{◌≡◌, ℕ, ◌+◌, ◌≤◌, List, [], ◌�
 use Rattle.std.specs.List.{range_with_len}
 use Rattle.std.proofs.lemmas.List.{append-nil, get_or_read, take_more}
 use Rattle.smp_kernel.proofs.Lists.{map_last}
-use Rattle.smp_stratcube.specs.declared.units.Member.{Member}
-use Rattle.smp_stratcube.specs.Layers.{Layer, no_layer, variables}
-use Rattle.smp_stratcube.specs.Kept.Layers.{width, first_of}
+use Rattle.smp_stratcube.specs.{declared.units.Member.{Member}, Layers.{Layer, no_layer, variables}, Kept.Layers.{width, first_of}}
 use Rattle.smp_stratcube.specs.Units.{member_of, members_from}
 use Rattle.smp_stratcube.proofs.Stored.{members_step, none_left}
 use Rattle.smp_stratcube.proofs.making.members_of.Goals as goal

@@ -1,6 +1,5 @@
 use Rattle.std.proofs.Common.{◌≡◌, ◌++◌, map, take, drop, length}
-use Rattle.smp_stratcube.specs.Kept.Layers.{first_of}
-use Rattle.smp_stratcube.specs.Units.{members_from}
+use Rattle.smp_stratcube.specs.{Kept.Layers.{first_of}, Units.{members_from}}
 use Rattle.smp_stratcube.proofs.making.members_of.Given as goal
 
 -- the units and denominators so far, and the units that are left

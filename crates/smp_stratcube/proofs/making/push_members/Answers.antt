@@ -1,9 +1,7 @@
-use Rattle.std.proofs.Common.{List, [], ◌∷◌, ◌++◌, map, arith, sym, ap, ap₂, ◌∙◌, append_assoc}
+use Rattle.std.proofs.{Common.{List, [], ◌∷◌, ◌++◌, map, arith, sym, ap, ap₂, ◌∙◌, append_assoc}, lemmas.List.{append-nil}}
 use Rattle.std.specs.List.{range_with_len}
-use Rattle.std.proofs.lemmas.List.{append-nil}
 use Rattle.std.proofs.lemmas.List.FromFn.{map-range_with_len_more}
-use Rattle.smp_stratcube.specs.declared.units.Member.{Member}
-use Rattle.smp_stratcube.specs.Units.{member_of}
+use Rattle.smp_stratcube.specs.{declared.units.Member.{Member}, Units.{member_of}}
 use Rattle.smp_stratcube.proofs.making.push_members.Goals as goal
 
 pub loop-unit-init : goal.loop-unit-init

@@ -1,14 +1,7 @@
 use Rattle.std.proofs.Common.{◌≡◌, List, map, length, arith, sym, ap, ◌∙◌, subst}
-use Rattle.smp_stratcube.specs.Layers.{AreLayers, Layer, variables}
-use Rattle.smp_stratcube.specs.Units.{IsUnits, Units, members_from, units_of}
-use Rattle.smp_stratcube.specs.Requests.{AreRequested}
-use Rattle.smp_stratcube.specs.States.{started}
-use Rattle.smp_stratcube.specs.Kept.Behind.{HaveCommon}
-use Rattle.smp_stratcube.specs.Kept.Layers.{EachIsLayer, first_of}
-use Rattle.smp_stratcube.proofs.Behinds.{have_common}
-use Rattle.smp_stratcube.proofs.Layered.{units_are}
-use Rattle.smp_stratcube.proofs.Starting.{are_requested}
-use Rattle.smp_stratcube.proofs.Stored.{units_view}
+use Rattle.smp_stratcube.specs.{Layers.{AreLayers, Layer, variables}, Units.{IsUnits, Units, members_from, units_of}, States.{started}}
+use Rattle.smp_stratcube.specs.{Requests.{AreRequested}, Kept.Behind.{HaveCommon}, Kept.Layers.{EachIsLayer, first_of}}
+use Rattle.smp_stratcube.proofs.{Behinds.{have_common}, Layered.{units_are}, Starting.{are_requested}, Stored.{units_view}}
 use Rattle.smp_stratcube.proofs.making.units_of.Goals as goal
 
 pub behind_of-requires : goal.behind_of-requires

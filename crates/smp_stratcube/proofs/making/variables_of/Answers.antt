@@ -1,10 +1,7 @@
-use Rattle.std.proofs.Common.{◌≡◌, ◌+◌, ◌≤◌, drop, take, length, arith, sym, ap, ◌∙◌}
-use Rattle.std.proofs.lemmas.List.{length-map}
-use Rattle.smp_stratcube.specs.Layers.{Layer, variables}
-use Rattle.smp_stratcube.specs.Kept.Layers.{width}
-use Rattle.smp_stratcube.proofs.Stored.{first_has, first_none, here_of, none_left}
+use Rattle.std.proofs.{Common.{◌≡◌, ◌+◌, ◌≤◌, drop, take, length, arith, sym, ap, ◌∙◌}, lemmas.List.{length-map}}
+use Rattle.smp_stratcube.specs.{Layers.{Layer, variables}, Kept.Layers.{width}}
+use Rattle.smp_stratcube.proofs.{Stored.{first_has, first_none, here_of, none_left}, making.variables_of.Goals.{After-len}}
 use Rattle.smp_stratcube.proofs.making.variables_of.Goals as goal
-use Rattle.smp_stratcube.proofs.making.variables_of.Goals.{After-len}
 
 -- how many values a layer has
 count : (c : After-len) → length c.layer.inside.values.items ≡ length c.index-layers-stratum.result.values

@@ -1,8 +1,6 @@
 use Rattle.std.proofs.Common.{arith, ◌≡◌, ◌<◌, List, Some, None, get_or, set, sym, ap, ap₂, ◌∙◌, subst}
-use Rattle.smp_stratcube.specs.declared.values.Value.{Value}
+use Rattle.smp_stratcube.specs.{declared.values.Value.{Value}, Pairs.{first_pair, paired_parts}, Values.{fractional_units}}
 use Rattle.smp_split.specs.Trees.{weight_sum}
-use Rattle.smp_stratcube.specs.Pairs.{first_pair, paired_parts}
-use Rattle.smp_stratcube.specs.Values.{fractional_units}
 use Rattle.smp_stratcube.specs.Kept.Pairs.{AreMet, settled_at}
 use Rattle.smp_stratcube.proofs.Written.{first_inside, lone_is, met_is, second_inside, unit_inside}
 use Rattle.smp_stratcube.proofs.pairs.advance.Goals as goal

@@ -1,9 +1,7 @@
 use Rattle.std.proofs.Common.{arith, ◌≡◌, ◌≢◌, ◌+◌, ◌-◌, Some, get_or, sym, ap, ◌∙◌}
 use Rattle.smp_moves.proofs.Places.{rest_all, rest_of}
-use Rattle.smp_stratcube.specs.Units.{stratum}
-use Rattle.smp_stratcube.specs.Pairs.{first_pair}
-use Rattle.smp_stratcube.proofs.Ahead.{front_inside}
-use Rattle.smp_stratcube.proofs.Pairing.{pair_here, pair_next, pair_none, pair_of_front}
+use Rattle.smp_stratcube.specs.{Units.{stratum}, Pairs.{first_pair}}
+use Rattle.smp_stratcube.proofs.{Ahead.{front_inside}, Pairing.{pair_here, pair_next, pair_none, pair_of_front}}
 use Rattle.smp_stratcube.proofs.pairs.first_pair.Goals as goal
 
 pub loop-place-init : goal.loop-place-init

@@ -1,7 +1,6 @@
 use Rattle.std.proofs.Common.{◌≡◌, ◌-◌}
 use Rattle.smp_moves.proofs.Places.{rest_of}
-use Rattle.smp_stratcube.specs.Pairs.{first_pair}
-use Rattle.smp_stratcube.specs.Kept.Fronts.{front_units}
+use Rattle.smp_stratcube.specs.{Pairs.{first_pair}, Kept.Fronts.{front_units}}
 use Rattle.smp_stratcube.proofs.pairs.first_pair.Given as goal
 
 -- no two neighbours before are of one stratum

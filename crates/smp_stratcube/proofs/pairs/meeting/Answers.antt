@@ -1,6 +1,5 @@
 use Rattle.std.proofs.Common.{arith, ◌≡◌, ℕ, ap, ◌∙◌}
-use Rattle.smp_stratcube.specs.Units.{stratum}
-use Rattle.smp_stratcube.specs.Values.{stratum_common}
+use Rattle.smp_stratcube.specs.{Units.{stratum}, Values.{stratum_common}}
 use Rattle.smp_stratcube.proofs.Written.{first_inside, first_open, meet_some, numer_read, second_inside, second_open, stratum_in_front}
 use Rattle.smp_stratcube.proofs.pairs.meeting.Goals as goal
 

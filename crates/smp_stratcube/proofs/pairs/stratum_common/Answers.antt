@@ -1,15 +1,9 @@
 use Rattle.std.proofs.Common.{arith, ◌≡◌, ◌+◌, ◌≤◌, ◌^◌, ℕ, List, get_or, sym, ap, ◌∙◌, subst}
 use Rattle.smp_prob.specs.Given.{least_multiple}
-use Rattle.smp_moves.proofs.Places.{rest_all, rest_none, rest_of}
-use Rattle.smp_stratcube.specs.declared.values.Value.{Value}
-use Rattle.smp_stratcube.specs.Values.{value}
-use Rattle.smp_stratcube.specs.declared.fronts.Front.{Front}
-use Rattle.smp_stratcube.specs.Units.{Units}
-use Rattle.smp_stratcube.specs.Kept.Fronts.{front_units}
-use Rattle.smp_stratcube.specs.Kept.Pairs.{common_in, dens_in}
-use Rattle.smp_moves.proofs.Multiples.{from, least}
-use Rattle.smp_stratcube.proofs.Ahead.{front_inside}
-use Rattle.smp_stratcube.proofs.Behinds.{have_common, some_behind}
+use Rattle.smp_moves.proofs.{Places.{rest_all, rest_none, rest_of}, Multiples.{from, least}}
+use Rattle.smp_stratcube.specs.{declared.values.Value.{Value}, Values.{value}, declared.fronts.Front.{Front}, Units.{Units}}
+use Rattle.smp_stratcube.specs.{Kept.Fronts.{front_units}, Kept.Pairs.{common_in, dens_in}}
+use Rattle.smp_stratcube.proofs.{Ahead.{front_inside}, Behinds.{have_common, some_behind}}
 use Rattle.smp_stratcube.proofs.Pairing.{dens_here, dens_past, dens_some, front_narrow, front_some, most_of, none_on, other_on, some_on}
 use Rattle.smp_stratcube.proofs.pairs.stratum_common.Goals as goal
 use Rattle.smp_stratcube.proofs.pairs.stratum_common.Goals.{then-stratum, else-stratum, else-front-len-via-then-front-len+else-stratum-2, else-front-len-via-else-front-len}

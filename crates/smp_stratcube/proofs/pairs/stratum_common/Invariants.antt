@@ -1,8 +1,6 @@
 use Rattle.std.proofs.Common.{◌≡◌, ◌≤◌}
-use Rattle.smp_moves.proofs.Places.{rest_of}
-use Rattle.smp_moves.proofs.Multiples.{from}
-use Rattle.smp_stratcube.specs.Kept.Fronts.{front_units}
-use Rattle.smp_stratcube.specs.Kept.Pairs.{common_in, dens_in}
+use Rattle.smp_moves.proofs.{Places.{rest_of}, Multiples.{from}}
+use Rattle.smp_stratcube.specs.{Kept.Fronts.{front_units}, Kept.Pairs.{common_in, dens_in}}
 use Rattle.smp_stratcube.proofs.pairs.stratum_common.Given as goal
 
 -- the common denominator so far, and the units that are left

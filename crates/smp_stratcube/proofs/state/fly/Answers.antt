@@ -1,9 +1,7 @@
 use Rattle.std.proofs.Common.{length, refl, sym, subst}
-use Rattle.smp_moves.specs.Answers.{line_of}
-use Rattle.smp_moves.specs.Moves.{turned}
+use Rattle.smp_moves.specs.{Answers.{line_of}, Moves.{turned}}
 use Rattle.smp_stratcube.specs.Kept.Moves.{IsAlong}
-use Rattle.smp_stratcube.proofs.Ending.{inside, some_size}
-use Rattle.smp_stratcube.proofs.Written.{gone_is, turn_along}
+use Rattle.smp_stratcube.proofs.{Ending.{inside, some_size}, Written.{gone_is, turn_along}}
 use Rattle.smp_stratcube.proofs.state.fly.Goals as goal
 
 pub go-requires-clause-inside : goal.go-requires-clause-inside

@@ -1,16 +1,8 @@
 use Rattle.std.proofs.Common.{ℕ, ◌<◌, ◌≤◌, ◌^◌, arith, get_or, length, sym, ◌∙◌}
-use Rattle.smp_moves.specs.declared.lines.Line.{Line}
-use Rattle.smp_moves.specs.declared.reaches.Reach.{Reach}
-use Rattle.smp_moves.specs.Answers.{IsPadded}
-use Rattle.smp_moves.specs.Kept.Ends.{HasSmallEntries}
-use Rattle.smp_stratcube.specs.Units.{IsUnits}
-use Rattle.smp_stratcube.specs.Values.{IsValue, value}
-use Rattle.smp_stratcube.specs.Kept.Lines.{AreInside}
-use Rattle.smp_stratcube.specs.Kept.Computed.{flight_of}
+use Rattle.smp_moves.specs.{declared.lines.Line.{Line}, declared.reaches.Reach.{Reach}, Answers.{IsPadded}, Kept.Ends.{HasSmallEntries}}
+use Rattle.smp_stratcube.specs.{Units.{IsUnits}, Values.{IsValue, value}, Kept.Lines.{AreInside}, Kept.Computed.{flight_of}}
 use Rattle.smp_stratcube.specs.Kept.Moves.{IsAlong}
-use Rattle.smp_stratcube.proofs.Ahead.{front_inside}
-use Rattle.smp_stratcube.proofs.Ending.{some_size}
-use Rattle.smp_stratcube.proofs.Parts.{product_fits}
+use Rattle.smp_stratcube.proofs.{Ahead.{front_inside}, Ending.{some_size}, Parts.{product_fits}}
 use Rattle.smp_stratcube.proofs.Stepped.{back_inside, backward, den_narrow, forth, is_move_of, line_inside, no_denominator, no_minus, no_plus, reaches_some}
 use Rattle.smp_stratcube.proofs.steps.step_along.Goals as goal
 use Rattle.smp_stratcube.proofs.steps.step_along.Goals.{After-reach_along-down, After-reach_along-up, In-Some}

@@ -1,7 +1,6 @@
 use Rattle.std.proofs.Common.{arith}
 use Rattle.smp_kernel.specs.Searches.{none, too_wide}
-use Rattle.smp_stratcube.proofs.Ahead.{front_inside}
-use Rattle.smp_stratcube.proofs.Stepped.{found_fewer, found_line, found_small, found_some, found_wide, step_found}
+use Rattle.smp_stratcube.proofs.{Ahead.{front_inside}, Stepped.{found_fewer, found_line, found_small, found_some, found_wide, step_found}}
 use Rattle.smp_stratcube.specs.Kept.Computed.{flight_of}
 use Rattle.smp_stratcube.proofs.steps.step_found.Goals as goal
 

@@ -1,9 +1,7 @@
-use Rattle.std.proofs.Common.{◌≡◌, ℕ, ◌+◌, ◌*◌, ◌/◌, ◌%◌, ◌^◌, ◌<◌, ◌≤◌, ◌-◌, arith, ap, sym, ◌∙◌, subst, inl, inr}
+use Rattle.std.proofs.{Common.{◌≡◌, ℕ, ◌+◌, ◌*◌, ◌/◌, ◌%◌, ◌^◌, ◌<◌, ◌≤◌, ◌-◌, arith, ap, sym, ◌∙◌, subst, inl, inr}, lemmas.Nat.{one_shl}}
 use Rattle.std.proofs.lemmas.Bool.{cases_lt}
 use Rattle.smp_tape.proofs.Blocks.{pow_le}
-use Rattle.std.proofs.lemmas.Nat.{one_shl}
-use Rattle.smp_tape.specs.Streams.{Stream, ahead, behind}
-use Rattle.smp_tape.specs.Sieves.{block, bits_of, words_of}
+use Rattle.smp_tape.specs.{Streams.{Stream, ahead, behind}, Sieves.{block, bits_of, words_of}}
 use Rattle.smp_tape.proofs.Candidates.{Tried, none_tried, bits_are, thrown_away, found, found_rest, is_first, none_found, all_thrown, all_rest}
 use Rattle.smp_tape.proofs.sieve.first_below.Goals as goal
 

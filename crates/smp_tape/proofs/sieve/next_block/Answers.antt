@@ -1,5 +1,4 @@
-use Rattle.std.proofs.Common.{◌≡◌, ◌+◌, ◌*◌, ◌%◌, ◌^◌, ◌<◌, ◌≤◌, arith, sym, subst}
-use Rattle.std.proofs.lemmas.Nat.{shl_whole}
+use Rattle.std.proofs.{Common.{◌≡◌, ◌+◌, ◌*◌, ◌%◌, ◌^◌, ◌<◌, ◌≤◌, arith, sym, subst}, lemmas.Nat.{shl_whole}}
 use Rattle.smp_tape.proofs.Blocks.{IsBlock, no_block, word_more, pow_le}
 use Rattle.smp_tape.proofs.sieve.next_block.Goals as goal
 

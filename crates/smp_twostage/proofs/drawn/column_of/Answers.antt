@@ -1,10 +1,8 @@
-use Rattle.std.proofs.Common.{◌≡◌, ◌++◌, ◌+◌, ◌<◌, [], drop, get_or, map, length, arith, ap, ◌∙◌, to_z, of_z, w64}
-use Rattle.std.proofs.lemmas.Int.{to_z-of_z}
+use Rattle.std.proofs.{Common.{◌≡◌, ◌++◌, ◌+◌, ◌<◌, [], drop, get_or, map, length, arith, ap, ◌∙◌, to_z, of_z, w64}, lemmas.Int.{to_z-of_z}}
 use Rattle.std.proofs.lemmas.List.{length-map}
 use Rattle.smp_kernel.specs.Vectors.{entry}
 use Rattle.smp_twostage.specs.DrawnLines.{column_of, drawn_view}
-use Rattle.smp_twostage.proofs.ColumnSums.{entry_fits}
-use Rattle.smp_twostage.proofs.ToldLines.{last_mapped, next_mapped}
+use Rattle.smp_twostage.proofs.{ColumnSums.{entry_fits}, ToldLines.{last_mapped, next_mapped}}
 use Rattle.smp_twostage.proofs.drawn.column_of.Goals as goal
 
 pub loop-unit-preserved : goal.loop-unit-preserved

@@ -1,9 +1,7 @@
-use Rattle.std.proofs.Common.{◌++◌, length, arith, ap, ◌∙◌}
+use Rattle.std.proofs.{Common.{◌++◌, length, arith, ap, ◌∙◌}, lemmas.List.{length-map}}
 use Rattle.std.specs.List.{flat_map, range_with_len}
-use Rattle.std.proofs.lemmas.List.{length-map}
 use Rattle.smp_kernel.specs.Vectors.{entry}
-use Rattle.smp_weights.specs.Chosen.{chosen_units}
-use Rattle.smp_weights.specs.Totals.{estimate_of}
+use Rattle.smp_weights.specs.{Chosen.{chosen_units}, Totals.{estimate_of}}
 use Rattle.smp_twostage.specs.DrawnLines.{balance_line, drawn_view}
 use Rattle.smp_twostage.proofs.ToldLines.{next_line, last_line}
 use Rattle.smp_twostage.proofs.drawn.drawn_lines.Goals as goal

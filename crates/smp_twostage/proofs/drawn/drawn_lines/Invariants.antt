@@ -1,6 +1,5 @@
 use Rattle.std.proofs.Common.{◌≡◌, ◌++◌, drop}
-use Rattle.std.specs.Prelude.{string_bytes}
-use Rattle.std.specs.List.{flat_map, range_with_len}
+use Rattle.std.specs.{Prelude.{string_bytes}, List.{flat_map, range_with_len}}
 use Rattle.smp_twostage.specs.DrawnLines.{balance_line, drawn_lines, drawn_view}
 use Rattle.smp_twostage.proofs.drawn.drawn_lines.Given as goal
 

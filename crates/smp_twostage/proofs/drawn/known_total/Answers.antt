@@ -1,7 +1,6 @@
 use Rattle.std.proofs.Common.{◌≡◌, ◌+◌, ◌≤◌, ◌+ℤ◌, ◌^◌, ℕ, List, ℤ, pos, get_or, length, arith, ap, sym, subst, ◌∙◌, to_z, of_z, w64, SFits}
 use Rattle.std.specs.Int.RustNames.{unsigned_abs}
-use Rattle.std.proofs.lemmas.Int.{to_z-of_z}
-use Rattle.std.proofs.lemmas.List.{length-map}
+use Rattle.std.proofs.{lemmas.Int.{to_z-of_z}, lemmas.List.{length-map}}
 use Rattle.smp_twostage.specs.DrawnLines.{Drawn, column_of, known_sum, drawn_view}
 use Rattle.smp_twostage.proofs.ColumnSums.{IsSum, adds_none, adds_value, next_sum, no_sum, small_in, sum_fits, whole_sum}
 use Rattle.smp_kernel.specs.Vectors.{entry}

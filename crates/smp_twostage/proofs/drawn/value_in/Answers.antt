@@ -1,5 +1,4 @@
-use Rattle.std.proofs.Common.{◌<◌, [], map, length, ap, arith}
-use Rattle.std.proofs.lemmas.List.{get_or-map, length-map}
+use Rattle.std.proofs.{Common.{◌<◌, [], map, length, ap, arith}, lemmas.List.{get_or-map, length-map}}
 use Rattle.smp_twostage.proofs.drawn.value_in.Goals as goal
 
 pub bounds-drawn-column : goal.bounds-drawn-column

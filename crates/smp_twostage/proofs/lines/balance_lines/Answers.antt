@@ -1,12 +1,8 @@
 use Rattle.std.proofs.Common.{◌≡◌, ◌<◌, ◌≤◌, ℕ, true, false, arith, sym, ap, ◌∙◌}
-use Rattle.std.specs.Prelude.{string_bytes}
-use Rattle.std.specs.List.{flat_map}
-use Rattle.smp_design.specs.declared.procedure.Procedure.{Procedure}
-use Rattle.smp_design.specs.Words.{balances}
+use Rattle.std.specs.{Prelude.{string_bytes}, List.{flat_map}}
+use Rattle.smp_design.specs.{declared.procedure.Procedure.{Procedure}, Words.{balances}}
 use Rattle.smp_strata.specs.Plans.{Plan}
-use Rattle.smp_twostage.specs.Kept.Stages.{section_lines}
-use Rattle.smp_twostage.specs.Lines.{told_sections}
-use Rattle.smp_twostage.specs.Selections.{all_of, covers, section_count}
+use Rattle.smp_twostage.specs.{Kept.Stages.{section_lines}, Lines.{told_sections}, Selections.{all_of, covers, section_count}}
 use Rattle.smp_twostage.proofs.Numbers.{line_more, line_passed, lines_all}
 use Rattle.smp_twostage.proofs.lines.balance_lines.Goals.{then-covers+in_ok-push_lines, else-covers}
 use Rattle.smp_twostage.proofs.lines.balance_lines.Goals as goal

@@ -1,9 +1,6 @@
 use Rattle.std.proofs.Common.{◌≡◌, ◌++◌}
-use Rattle.std.specs.Prelude.{string_bytes}
-use Rattle.std.specs.List.{flat_map}
-use Rattle.smp_twostage.specs.Kept.Stages.{section_lines}
-use Rattle.smp_twostage.specs.Lines.{told_sections}
-use Rattle.smp_twostage.specs.Selections.{all_of, covers, section_count}
+use Rattle.std.specs.{Prelude.{string_bytes}, List.{flat_map}}
+use Rattle.smp_twostage.specs.{Kept.Stages.{section_lines}, Lines.{told_sections}, Selections.{all_of, covers, section_count}}
 use Rattle.smp_twostage.proofs.Numbers.{lines_from}
 use Rattle.smp_twostage.proofs.lines.balance_lines.Given as goal
 

@@ -1,10 +1,8 @@
 use Rattle.std.proofs.Common.{◌≡◌, ◌+◌, List, ℕ, IfOk, map, sym, ap, subst, ◌∙◌}
 use Rattle.std.specs.Prelude.{string_bytes}
-use Rattle.smp_twostage.specs.DrawnLines.{AreTold, Drawn, drawn_lines}
-use Rattle.smp_twostage.specs.Lines.{told}
+use Rattle.smp_twostage.specs.{DrawnLines.{AreTold, Drawn, drawn_lines}, Lines.{told}}
 use Rattle.smp_design.specs.declared.procedure.Procedure.{Procedure}
-use Rattle.smp_twostage.proofs.SeatsTold.{are_told, told_found}
-use Rattle.smp_twostage.proofs.lines.section_lines.Goals.{After-as_slice-3}
+use Rattle.smp_twostage.proofs.{SeatsTold.{are_told, told_found}, lines.section_lines.Goals.{After-as_slice-3}}
 use Rattle.smp_twostage.proofs.lines.section_lines.Goals as goal
 
 -- what was gathered is what is told of the section

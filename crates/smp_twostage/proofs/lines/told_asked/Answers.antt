@@ -1,8 +1,6 @@
 use Rattle.std.proofs.Common.{ap, ◌∙◌}
 use Rattle.smp_frac.specs.LowestTerms.{lowest_terms}
-use Rattle.smp_strata.specs.Plans.{Plan}
-use Rattle.smp_strata.specs.Seats.{first_fraction}
-use Rattle.smp_strata.specs.declared.strata.Seat.{Seat}
+use Rattle.smp_strata.specs.{Plans.{Plan}, Seats.{first_fraction}, declared.strata.Seat.{Seat}}
 use Rattle.smp_twostage.specs.Kept.Stages.{told_seat}
 use Rattle.smp_twostage.proofs.SeatsTold.{next_told}
 use Rattle.smp_twostage.proofs.lines.told_asked.Goals as goal

@@ -1,7 +1,6 @@
 use Rattle.std.proofs.Common.{ap, ◌∙◌}
 use Rattle.smp_strata.specs.declared.strata.Seat.{Seat}
-use Rattle.smp_twostage.specs.Kept.Stages.{told_seat}
-use Rattle.smp_twostage.specs.Starts.{covered_first}
+use Rattle.smp_twostage.specs.{Kept.Stages.{told_seat}, Starts.{covered_first}}
 use Rattle.smp_twostage.proofs.SeatsTold.{next_told}
 use Rattle.smp_twostage.proofs.lines.told_chosen.Goals as goal
 

@@ -1,6 +1,5 @@
 use Rattle.std.proofs.Common.{◌≡◌}
-use Rattle.smp_twostage.specs.Kept.Stages.{each_told}
-use Rattle.smp_twostage.specs.Starts.{covered_first}
+use Rattle.smp_twostage.specs.{Kept.Stages.{each_told}, Starts.{covered_first}}
 use Rattle.smp_twostage.proofs.lines.told_chosen.Given as goal
 
 abbrev pub invariant-loop-number : goal.invariant-loop-number

@@ -1,11 +1,7 @@
 use Rattle.std.proofs.Common.{◌≡◌, true, sym, ap, subst, ◌∙◌}
-use Rattle.smp_design.specs.declared.procedure.Procedure.{Procedure}
-use Rattle.smp_design.specs.Words.{draws_together}
-use Rattle.smp_strata.specs.Plans.{Plan}
-use Rattle.smp_strata.specs.Seats.{IsSeat}
-use Rattle.smp_strata.specs.declared.strata.Seat.{Seat}
-use Rattle.smp_twostage.specs.Kept.Stages.{IsThere}
-use Rattle.smp_twostage.specs.Selections.{covers, is_together}
+use Rattle.smp_design.specs.{declared.procedure.Procedure.{Procedure}, Words.{draws_together}}
+use Rattle.smp_strata.specs.{Plans.{Plan}, Seats.{IsSeat}, declared.strata.Seat.{Seat}}
+use Rattle.smp_twostage.specs.{Kept.Stages.{IsThere}, Selections.{covers, is_together}}
 use Rattle.smp_twostage.proofs.SeatsTold.{row_told, seat_here}
 use Rattle.smp_twostage.proofs.lines.told_seat.Goals as goal
 

@@ -1,9 +1,6 @@
-use Rattle.std.proofs.Common.{[], ◌∷◌, map, ap, ◌∙◌}
-use Rattle.std.proofs.lemmas.List.{map-append}
-use Rattle.smp_strata.specs.Plans.{Plan}
-use Rattle.smp_strata.specs.declared.strata.Seat.{Seat}
-use Rattle.smp_twostage.specs.Kept.Stages.{told_seat}
-use Rattle.smp_twostage.specs.Lines.{seat_values}
+use Rattle.std.proofs.{Common.{[], ◌∷◌, map, ap, ◌∙◌}, lemmas.List.{map-append}}
+use Rattle.smp_strata.specs.{Plans.{Plan}, declared.strata.Seat.{Seat}}
+use Rattle.smp_twostage.specs.{Kept.Stages.{told_seat}, Lines.{seat_values}}
 use Rattle.smp_twostage.proofs.SeatsTold.{next_told}
 use Rattle.smp_twostage.proofs.lines.told_values.Goals as goal
 

@@ -1,6 +1,5 @@
 use Rattle.std.proofs.Common.{◌≡◌, map}
-use Rattle.smp_twostage.specs.Kept.Stages.{each_told}
-use Rattle.smp_twostage.specs.Lines.{seat_values}
+use Rattle.smp_twostage.specs.{Kept.Stages.{each_told}, Lines.{seat_values}}
 use Rattle.smp_twostage.proofs.lines.told_values.Given as goal
 
 abbrev pub invariant-loop-number : goal.invariant-loop-number

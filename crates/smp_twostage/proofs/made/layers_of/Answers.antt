@@ -1,11 +1,7 @@
 use Rattle.std.proofs.Common.{◌≡◌, ◌+◌, ◌++◌, ◌<◌, ◌≤◌, ℤ, List, length, map, drop, arith, ap, ◌∙◌}
-use Rattle.smp_stratcube.specs.Layers.{Layer}
-use Rattle.smp_stratcube.specs.Kept.Layers.{layer_of}
-use Rattle.smp_twostage.specs.Selections.{balancing, layers_of}
-use Rattle.smp_twostage.specs.Strata.{free_values}
-use Rattle.smp_twostage.proofs.Layers.{are_read, some_balance}
-use Rattle.smp_twostage.proofs.Together.{layer_in}
-use Rattle.smp_twostage.proofs.ToldLines.{last_mapped, next_mapped}
+use Rattle.smp_stratcube.specs.{Layers.{Layer}, Kept.Layers.{layer_of}}
+use Rattle.smp_twostage.specs.{Selections.{balancing, layers_of}, Strata.{free_values}}
+use Rattle.smp_twostage.proofs.{Layers.{are_read, some_balance}, Together.{layer_in}, ToldLines.{last_mapped, next_mapped}}
 use Rattle.smp_twostage.proofs.made.layers_of.Goals as goal
 
 pub loop-number-init : goal.loop-number-init

@@ -2,9 +2,7 @@ use Rattle.std.proofs.Common.{◌≡◌, ◌++◌, Some, arith, sym, ap}
 use Rattle.std.specs.List.{slice_get}
 use Rattle.smp_prob.specs.declared.requests.Request.{Request}
 use Rattle.smp_twostage.specs.Selections.{numbers_from}
-use Rattle.smp_twostage.proofs.Columns.{stratum_at}
-use Rattle.smp_twostage.proofs.Layers.{few_before, next_before, next_numbers, numbers_fit}
-use Rattle.smp_twostage.proofs.OverAll.{none_before}
+use Rattle.smp_twostage.proofs.{Columns.{stratum_at}, Layers.{few_before, next_before, next_numbers, numbers_fit}, OverAll.{none_before}}
 use Rattle.smp_twostage.proofs.made.request_over.Goals as goal
 
 pub loop-number-init : goal.loop-number-init

@@ -1,8 +1,6 @@
 use Rattle.std.proofs.Common.{◌≡◌, Some, arith, sym}
 use Rattle.std.specs.List.{slice_get}
-use Rattle.smp_twostage.proofs.Columns.{stratum_at}
-use Rattle.smp_twostage.proofs.Layers.{few_before, next_before}
-use Rattle.smp_twostage.proofs.OverAll.{none_before}
+use Rattle.smp_twostage.proofs.{Columns.{stratum_at}, Layers.{few_before, next_before}, OverAll.{none_before}}
 use Rattle.smp_twostage.proofs.made.units_before.Goals as goal
 
 pub loop-number-init : goal.loop-number-init

@@ -1,6 +1,5 @@
 use Rattle.std.proofs.Common.{◌≡◌, ◌+◌, ◌<◌, true, map, arith, refl, sym, ap, ◌∙◌}
-use Rattle.std.specs.Prelude.{is_some}
-use Rattle.std.specs.List.{range_with_len}
+use Rattle.std.specs.{Prelude.{is_some}, List.{range_with_len}}
 use Rattle.smp_twostage.specs.Selections.{seat_alone, seat_by}
 use Rattle.smp_twostage.proofs.Seats.{alone_room, next_its, next_other}
 use Rattle.smp_twostage.proofs.whole.seats_alone.Goals as goal

@@ -1,8 +1,7 @@
 use Rattle.std.proofs.Common.{◌≡◌, ◌<◌, true, length, get_or, arith, rules, sym, ap, ◌∙◌}
 use Rattle.std.specs.Prelude.{is_some}
 use Rattle.smp_twostage.specs.Selections.{seat_by}
-use Rattle.smp_twostage.proofs.Inside.{length_numbers, number_at}
-use Rattle.smp_twostage.proofs.Seats.{inside, next_seat, room}
+use Rattle.smp_twostage.proofs.{Inside.{length_numbers, number_at}, Seats.{inside, next_seat, room}}
 use Rattle.smp_twostage.proofs.whole.seats_of.Goals as goal
 
 pub bounds-firsts-place : goal.bounds-firsts-place

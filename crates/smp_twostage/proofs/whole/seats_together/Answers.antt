@@ -1,6 +1,5 @@
 use Rattle.std.proofs.Common.{◌<◌, arith}
-use Rattle.smp_twostage.proofs.Layers.{few_before}
-use Rattle.smp_twostage.proofs.Seats.{inside, next_together, unit_few}
+use Rattle.smp_twostage.proofs.{Layers.{few_before}, Seats.{inside, next_together, unit_few}}
 use Rattle.smp_twostage.proofs.whole.seats_together.Goals as goal
 
 pub units_before-requires-clause-stratum : goal.units_before-requires-clause-stratum

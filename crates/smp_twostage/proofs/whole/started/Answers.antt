@@ -1,11 +1,7 @@
 use Rattle.std.proofs.Common.{◌≡◌, List, map, refl, ap, subst, ◌∙◌}
-use Rattle.smp_methods.specs.declared.any.AnyState.{AnyState}
-use Rattle.smp_methods.specs.Designs.{first_state}
-use Rattle.smp_split.specs.declared.places.Stage.{Stage}
-use Rattle.smp_split.specs.StageStarts.{StartsInStages}
-use Rattle.smp_split.specs.Stages.{EachBelongs, progress}
-use Rattle.smp_twostage.specs.Kept.Stages.{EachFirst}
-use Rattle.smp_twostage.specs.Laws.Covered.{covered_staged}
+use Rattle.smp_methods.specs.{declared.any.AnyState.{AnyState}, Designs.{first_state}}
+use Rattle.smp_split.specs.{declared.places.Stage.{Stage}, StageStarts.{StartsInStages}, Stages.{EachBelongs, progress}}
+use Rattle.smp_twostage.specs.{Kept.Stages.{EachFirst}, Laws.Covered.{covered_staged}}
 use Rattle.smp_twostage.specs.Selections.{Coverage, Selecting, belongs_to, covered_seats, covered_stages, covered_states, tree_of}
 use Rattle.smp_twostage.proofs.whole.started.Goals as goal
 

@@ -1,9 +1,6 @@
 use Rattle.std.proofs.Common.{true, arith, refl, sym, subst, ◌∙◌}
-use Rattle.smp_twostage.specs.Covered.{StartsAlone}
-use Rattle.smp_twostage.specs.Selections.{Coverage}
-use Rattle.smp_twostage.specs.Starts.{StartsWhole}
-use Rattle.smp_twostage.proofs.CoveredSo.{firsts_so, seats_so, stages_in, start_so, starts_in}
-use Rattle.smp_twostage.proofs.Layers.{few_strata}
+use Rattle.smp_twostage.specs.{Covered.{StartsAlone}, Selections.{Coverage}, Starts.{StartsWhole}}
+use Rattle.smp_twostage.proofs.{CoveredSo.{firsts_so, seats_so, stages_in, start_so, starts_in}, Layers.{few_strata}}
 use Rattle.smp_twostage.proofs.StartsTogether.{alone_together, whole_together}
 use Rattle.smp_twostage.proofs.whole.together.Goals as goal
 

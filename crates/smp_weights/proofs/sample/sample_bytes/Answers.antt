@@ -1,7 +1,6 @@
 use Rattle.std.proofs.Common.{false, arith}
 use Rattle.smp_weights.specs.Totals.{zero}
-use Rattle.smp_weights.proofs.Written.{row_added}
-use Rattle.smp_weights.proofs.Chosen.{chosen_units-taken, chosen_units-skipped}
+use Rattle.smp_weights.proofs.{Written.{row_added}, Chosen.{chosen_units-taken, chosen_units-skipped}}
 use Rattle.smp_weights.proofs.sample.sample_bytes.Goals.{then-chosen-place+in_ok-push_sample_row, else-chosen-place}
 use Rattle.smp_weights.proofs.sample.sample_bytes.Goals as goal
 

@@ -1,6 +1,5 @@
 use Rattle.std.proofs.Common.{◌≡◌, ◌++◌, drop, map, flat_map, Some, option_map}
-use Rattle.smp_weights.specs.Chosen.{chosen_units}
-use Rattle.smp_weights.specs.Sample.{sample_row_of, chosen_unit, sample_text}
+use Rattle.smp_weights.specs.{Chosen.{chosen_units}, Sample.{sample_row_of, chosen_unit, sample_text}}
 use Rattle.smp_weights.proofs.sample.sample_bytes.Given as goal
 
 abbrev pub invariant-loop-place : goal.invariant-loop-place

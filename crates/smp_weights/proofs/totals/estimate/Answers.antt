@@ -1,7 +1,5 @@
 use Rattle.smp_weights.specs.Chosen.{chosen_units}
-use Rattle.smp_weights.proofs.Arithmetic.{difference_is}
-use Rattle.smp_weights.proofs.Steps.{is_wide, wide_above, wide_below, estimate_is}
-use Rattle.smp_weights.proofs.Values.{estimate_value}
+use Rattle.smp_weights.proofs.{Arithmetic.{difference_is}, Steps.{is_wide, wide_above, wide_below, estimate_is}, Values.{estimate_value}}
 use Rattle.smp_weights.proofs.totals.estimate.Goals as goal
 
 pub returns-in_err-above : goal.returns-in_err-above

@@ -1,8 +1,6 @@
 use Rattle.std.proofs.Common.{ap, ap₂, subst, ℕ, ◌∙◌, to_z-of_z, unsigned_abs}
-use Rattle.smp_frac.specs.Fractions.{Same, whole, integer}
-use Rattle.smp_frac.specs.Exact.{fraction}
-use Rattle.smp_weights.specs.Arithmetic.{product_of}
-use Rattle.smp_weights.specs.Chosen.{weight}
+use Rattle.smp_frac.specs.{Fractions.{Same, whole, integer}, Exact.{fraction}}
+use Rattle.smp_weights.specs.{Arithmetic.{product_of}, Chosen.{weight}}
 use Rattle.smp_frac.proofs.LowestTerms.{same-lowest_terms}
 use Rattle.smp_weights.proofs.Arithmetic.{product_is}
 use Rattle.smp_weights.proofs.totals.term.Goals as goal

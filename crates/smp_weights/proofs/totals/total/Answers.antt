@@ -1,11 +1,9 @@
-use Rattle.std.proofs.Common.{◌≡◌, get_or, true, false, pos, SFits, to_z-of_z, rules, sym, refl, ◌∙◌}
-use Rattle.std.proofs.lemmas.List.{drop_all}
+use Rattle.std.proofs.{Common.{◌≡◌, get_or, true, false, pos, SFits, to_z-of_z, rules, sym, refl, ◌∙◌}, lemmas.List.{drop_all}}
 use mir.Syntax.{w64}
 use Rattle.smp_frac.specs.Fractions.{whole}
 use Rattle.smp_weights.specs.Totals.{has_sign}
 use Rattle.smp_frac.proofs.LowestTerms.{same-lowest_terms}
-use Rattle.smp_weights.proofs.Steps.{is_wide}
-use Rattle.smp_weights.proofs.Counted.{counted, left_out}
+use Rattle.smp_weights.proofs.{Steps.{is_wide}, Counted.{counted, left_out}}
 use Rattle.smp_weights.proofs.totals.total.Goals.{then-chosen-place+then-has_sign+in_ok-total, else-chosen-place, else-chosen-place-via-then-chosen-place+else-has_sign, else-chosen-place-via-else-chosen-place}
 use Rattle.smp_weights.proofs.totals.total.Goals as goal
 

@@ -1,6 +1,5 @@
 use Rattle.std.proofs.Common.{◌≡◌, drop, filter}
-use Rattle.smp_weights.specs.Chosen.{chosen_units}
-use Rattle.smp_weights.specs.Totals.{has_sign, total_of, with_terms}
+use Rattle.smp_weights.specs.{Chosen.{chosen_units}, Totals.{has_sign, total_of, with_terms}}
 use Rattle.smp_weights.proofs.totals.total.Given as goal
 
 abbrev pub invariant-loop-place : goal.invariant-loop-place

@@ -1,7 +1,6 @@
 use Rattle.std.proofs.Common.{ℤ, ◌∙◌, to_z-of_z}
 use Rattle.smp_weights.specs.Chosen.{Chosen}
-use Rattle.smp_weights.proofs.Arithmetic.{sum_is}
-use Rattle.smp_weights.proofs.Steps.{is_wide, wide_term, sum_is-with_term}
+use Rattle.smp_weights.proofs.{Arithmetic.{sum_is}, Steps.{is_wide, wide_term, sum_is-with_term}}
 use Rattle.smp_weights.proofs.totals.with_term.Goals as goal
 
 pub returns-in_err-term : goal.returns-in_err-term

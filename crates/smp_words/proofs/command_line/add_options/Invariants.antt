@@ -1,7 +1,6 @@
 use Rattle.std.proofs.Common.{◌≡◌, drop}
 use Rattle.clap.specs.Words.{app_of}
-use Rattle.smp_words.specs.Views.{names_view}
-use Rattle.smp_words.specs.CommandLine.{with_options}
+use Rattle.smp_words.specs.{Views.{names_view}, CommandLine.{with_options}}
 use Rattle.smp_words.proofs.command_line.add_options.Given as goal
 
 abbrev pub invariant-loop-name : goal.invariant-loop-name

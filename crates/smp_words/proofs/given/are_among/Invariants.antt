@@ -1,6 +1,5 @@
 use Rattle.std.proofs.Common.{◌≡◌, map, drop}
-use Rattle.smp_words.specs.Views.{named_view, names_view}
-use Rattle.smp_words.specs.Words.{are_among}
+use Rattle.smp_words.specs.{Views.{named_view, names_view}, Words.{are_among}}
 use Rattle.smp_words.proofs.given.are_among.Given as goal
 
 abbrev pub invariant-loop-name : goal.invariant-loop-name

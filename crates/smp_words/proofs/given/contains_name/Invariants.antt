@@ -1,6 +1,5 @@
 use Rattle.std.proofs.Common.{◌≡◌, map, drop}
-use Rattle.std.specs.List.{list_any}
-use Rattle.std.specs.Str.{bytes_eq}
+use Rattle.std.specs.{List.{list_any}, Str.{bytes_eq}}
 use Rattle.smp_words.proofs.given.contains_name.Given as goal
 
 abbrev pub invariant-loop-other : goal.invariant-loop-other

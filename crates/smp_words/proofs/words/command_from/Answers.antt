@@ -1,7 +1,5 @@
 use Rattle.std.proofs.Common.{Result, Ok, Err, IfOk, IfSome, Option, ◌≡◌, subst, sym}
-use Rattle.smp_words.specs.declared.command.Command.{Command}
-use Rattle.smp_words.specs.Views.{given_view}
-use Rattle.smp_words.specs.Words.{command_given, IsAsked}
+use Rattle.smp_words.specs.{declared.command.Command.{Command}, Views.{given_view}, Words.{command_given, IsAsked}}
 use Rattle.smp_words.proofs.Asked.{given_asked}
 use Rattle.smp_words.proofs.words.command_from.Goals as goal
 

@@ -1,7 +1,5 @@
-use Rattle.std.proofs.Common.{◌≡◌, ◌≢◌, false, arith, refl}
-use Rattle.std.proofs.lemmas.Bool.{eqb-false}
-use Rattle.smp_brewer.specs.Brewer.{offering, IsOffers, IsOffered, units_of, brewing_tree}
-use Rattle.smp_brewer.specs.Kept.States.{IsReady}
+use Rattle.std.proofs.{Common.{◌≡◌, ◌≢◌, false, arith, refl}, lemmas.Bool.{eqb-false}}
+use Rattle.smp_brewer.specs.{Brewer.{offering, IsOffers, IsOffered, units_of, brewing_tree}, Kept.States.{IsReady}}
 use Rattle.smp_brewer.specs.Laws.Splits.{spent_belongs}
 use Rattle.smp_brewer.proofs.design.BrewerSplitting.advance.Goals as goal
 

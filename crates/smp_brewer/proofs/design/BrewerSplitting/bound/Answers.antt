@@ -1,6 +1,5 @@
 use Rattle.std.proofs.Common.{◌≡◌, ◌∙◌, false, arith, sym}
-use Rattle.smp_brewer.specs.Brewer.{IsOffered, is_spent, units_of}
-use Rattle.smp_brewer.specs.Laws.Answers.{bound_is}
+use Rattle.smp_brewer.specs.{Brewer.{IsOffered, is_spent, units_of}, Laws.Answers.{bound_is}}
 use Rattle.smp_brewer.proofs.Offered.{offer_bound}
 use Rattle.smp_brewer.proofs.design.BrewerSplitting.bound.Goals as goal
 

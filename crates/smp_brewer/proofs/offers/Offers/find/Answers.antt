@@ -1,6 +1,5 @@
 use Rattle.std.proofs.Common.{ap, ◌∙◌, arith}
-use Rattle.smp_brewer.specs.Brewer.{offering, offered}
-use Rattle.smp_brewer.specs.Laws.Offers.{weight_sum-offers}
+use Rattle.smp_brewer.specs.{Brewer.{offering, offered}, Laws.Offers.{weight_sum-offers}}
 use Rattle.smp_brewer.proofs.Offered.{picked_offer}
 use Rattle.smp_brewer.proofs.offers.Offers.find.Goals as goal
 

@@ -1,6 +1,5 @@
 use Rattle.std.proofs.Common.{◌<◌, arith, sym, ap, ◌∙◌}
-use Rattle.smp_elim.specs.Elimination.{Remaining, left_count, factor}
-use Rattle.smp_elim.specs.Kept.States.{remaining}
+use Rattle.smp_elim.specs.{Elimination.{Remaining, left_count, factor}, Kept.States.{remaining}}
 use Rattle.smp_elim.proofs.Finding.{is_weighed}
 use Rattle.smp_elim.proofs.state.EliminationState.bound.Goals as goal
 

@@ -1,12 +1,9 @@
 use Rattle.std.proofs.Common.{◌≡◌, ℕ, ◌<◌, Bool, true, List, length, arith, sym, ap, subst, ◌∙◌}
 use Rattle.smp_split.specs.Trees.{picked}
-use Rattle.smp_elim.specs.Elimination.{Remaining, eliminate_parts, factor, left_count, may_go, without}
-use Rattle.smp_elim.specs.declared.cuts.Cut.{Cut}
-use Rattle.smp_elim.specs.Kept.States.{IsKept, remaining}
-use Rattle.smp_elim.specs.Laws.Weights.{bound_is}
-use Rattle.smp_elim.proofs.Finding.{IsWeighed, is_weighed, found_may, found_is}
+use Rattle.smp_elim.specs.{Elimination.{Remaining, eliminate_parts, factor, left_count, may_go, without}, declared.cuts.Cut.{Cut}}
+use Rattle.smp_elim.specs.{Kept.States.{IsKept, remaining}, Laws.Weights.{bound_is}}
+use Rattle.smp_elim.proofs.{Finding.{IsWeighed, is_weighed, found_may, found_is}, state.EliminationState.find.Goals.{After-find_in_both}}
 use Rattle.smp_elim.proofs.state.EliminationState.find.Goals as goal
-use Rattle.smp_elim.proofs.state.EliminationState.find.Goals.{After-find_in_both}
 
 -- the weights of the step of a state, by what is kept of it
 weighed : {sizes order : List ℕ} {wanted : ℕ} {left : List Bool} {count : ℕ} {now next : Cut} {common fresh : List ℕ} (state : Remaining) (f : ℕ) → IsKept sizes order wanted left count now next common fresh → remaining sizes wanted left ≡ state →

@@ -1,6 +1,5 @@
 use Rattle.std.proofs.Common.{◌≡◌, ◌<◌, true, length, arith, ap, ◌∙◌}
-use Rattle.smp_elim.specs.Elimination.{left_count, may_go}
-use Rattle.smp_elim.specs.Kept.States.{remaining}
+use Rattle.smp_elim.specs.{Elimination.{left_count, may_go}, Kept.States.{remaining}}
 use Rattle.smp_elim.proofs.Taking.{IsSettled, after_narrow, cut_within, is_ready, kept_after, none_fresh, units_within}
 use Rattle.smp_elim.proofs.state.EliminationState.take_out.Goals as goal
 use Rattle.smp_elim.proofs.state.EliminationState.take_out.Goals.{After-as_slice, After-settle}

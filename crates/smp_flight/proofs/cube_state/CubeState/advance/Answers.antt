@@ -1,8 +1,6 @@
 use Rattle.std.proofs.Common.{◌≡◌, false, length, arith, sym, ap, ◌∙◌, subst}
 use Rattle.smp_values.specs.Values.{is_settled, fractional_units}
-use Rattle.smp_flight.specs.States.{AreFirst, IsFlight, Tracked}
-use Rattle.smp_flight.specs.Laws.ByOrder.{some_row}
-use Rattle.smp_flight.specs.Laws.WholeOrders.{frame_whole}
+use Rattle.smp_flight.specs.{States.{AreFirst, IsFlight, Tracked}, Laws.ByOrder.{some_row}, Laws.WholeOrders.{frame_whole}}
 use Rattle.smp_flight.proofs.cube_state.CubeState.advance.Goals as goal
 
 pub drop_row-requires-clause-some : goal.drop_row-requires-clause-some

@@ -1,9 +1,7 @@
 use Rattle.std.proofs.Common.{arith, sym}
-use Rattle.smp_flight.specs.Answers.{move_of}
-use Rattle.smp_flight.specs.States.{IsFlight}
+use Rattle.smp_flight.specs.{Answers.{move_of}, States.{IsFlight}, Laws.ByOrder.{both_ways}}
 use Rattle.smp_values.specs.Values.{fractional_units}
 use Rattle.smp_moves.proofs.Entries.{frame_order}
-use Rattle.smp_flight.specs.Laws.ByOrder.{both_ways}
 use Rattle.smp_flight.proofs.cube_state.CubeState.bound.Goals as goal
 
 pub overflow_add-result : goal.overflow_add-result

@@ -1,8 +1,5 @@
-use Rattle.std.proofs.Common.{◌+◌, ◌*◌, ◌/◌}
-use Rattle.std.proofs.lemmas.Result.{IfOk-weaker}
-use Rattle.smp_frac.specs.Fractions.{Same, over, plus}
-use Rattle.smp_frac.specs.Exact.{fraction}
-use Rattle.smp_frac.specs.Laws.Coprime.{part_positive}
+use Rattle.std.proofs.{Common.{◌+◌, ◌*◌, ◌/◌}, lemmas.Result.{IfOk-weaker}}
+use Rattle.smp_frac.specs.{Fractions.{Same, over, plus}, Exact.{fraction}, Laws.Coprime.{part_positive}}
 use Rattle.smp_frac.proofs.Sums.{terms_sum_apart, terms_sum_rest_apart, is_sum}
 use Rattle.smp_frac.proofs.fractions.Frac.add.Goals as goal
 

@@ -1,5 +1,4 @@
-use Rattle.std.proofs.Common.{arith, refl}
-use Rattle.std.proofs.lemmas.Nat.Gcd.{IsGcd-swap}
+use Rattle.std.proofs.{Common.{arith, refl}, lemmas.Nat.Gcd.{IsGcd-swap}}
 use Rattle.smp_frac.proofs.Over.{over_from_cross}
 use Rattle.smp_frac.specs.Laws.Lowest.{lowest_from_coprime, coprime_from_lowest}
 use Rattle.smp_frac.proofs.fractions.Frac.inverse.Goals as goal

@@ -1,5 +1,4 @@
-use Rattle.std.proofs.Common.{arith, pos, ap}
-use Rattle.std.proofs.lemmas.Result.{err_from_is_err_and}
+use Rattle.std.proofs.{Common.{arith, pos, ap}, lemmas.Result.{err_from_is_err_and}}
 use Rattle.smp_frac.specs.Laws.Coprime.{divisor_positive}
 use Rattle.smp_frac.proofs.Products.{reduced_product}
 use Rattle.smp_frac.proofs.fractions.Frac.mul.Goals as goal

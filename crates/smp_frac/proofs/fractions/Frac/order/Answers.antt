@@ -1,7 +1,6 @@
 use Rattle.std.proofs.Common.{◌≡◌, ◌≢◌, ◌*◌, ◌/◌, ◌%◌, arith, ap₂, ◌∙◌}
 use Rattle.std.specs.Ordering.{nat_cmp, ordering_then}
-use Rattle.smp_frac.proofs.Orders.{nat_cmp_inverses, nat_cmp_parts, at_most_is, at_least_is}
-use Rattle.smp_frac.proofs.Unique.{equal_is_same}
+use Rattle.smp_frac.proofs.{Orders.{nat_cmp_inverses, nat_cmp_parts, at_most_is, at_least_is}, Unique.{equal_is_same}}
 use Rattle.smp_frac.proofs.fractions.Frac.order.Goals as goal
 use Rattle.smp_frac.proofs.fractions.Frac.order.Goals.{then-loop-a-test+then-a-b-ne0+else-c-d-ne0, then-loop-a-test+else-a-b-ne0, else-loop-a-test}
 

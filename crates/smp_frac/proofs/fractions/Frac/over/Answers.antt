@@ -1,8 +1,6 @@
 use Rattle.std.proofs.Common.{arith}
-use Rattle.smp_frac.proofs.Over.{over_from_cross}
-use Rattle.smp_frac.specs.Laws.Coprime.{part_positive}
-use Rattle.smp_frac.specs.Laws.Lowest.{lowest_parts, same_value}
-use Rattle.smp_frac.proofs.LowestTerms.{same-lowest_terms}
+use Rattle.smp_frac.proofs.{Over.{over_from_cross}, LowestTerms.{same-lowest_terms}}
+use Rattle.smp_frac.specs.{Laws.Coprime.{part_positive}, Laws.Lowest.{lowest_parts, same_value}}
 use Rattle.smp_frac.proofs.fractions.Frac.over.Goals as goal
 
 pub invariant_of-result : goal.invariant_of-result

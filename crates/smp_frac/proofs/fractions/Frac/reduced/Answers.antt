@@ -1,7 +1,6 @@
 use Rattle.std.proofs.Common.{◌≡◌, ◌*◌, ◌/◌, ◌≤◌, ap, sym, ◌∙◌, subst, ℕ}
-use Rattle.smp_frac.specs.Fractions.{positive_product}
+use Rattle.smp_frac.specs.{Fractions.{positive_product}, Divisors.{greatest_common_divisor}}
 use Rattle.smp_frac.proofs.Over.{over_from_cross}
-use Rattle.smp_frac.specs.Divisors.{greatest_common_divisor}
 use Rattle.smp_frac.specs.Laws.Lowest.{over-divisor, over-positive, over-lowest, over-value}
 use Rattle.smp_frac.proofs.fractions.Frac.reduced.Goals as goal
 

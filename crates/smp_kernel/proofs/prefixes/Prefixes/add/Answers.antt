@@ -1,6 +1,5 @@
 use Rattle.std.proofs.Common.{◌≡◌, List, [], ◌∷◌, ◌++◌, ℤ, sym, ap, ◌∙◌, subst}
-use Rattle.smp_kernel.specs.Answers.{Enters}
-use Rattle.smp_kernel.specs.Kept.Searched.{last_of}
+use Rattle.smp_kernel.specs.{Answers.{Enters}, Kept.Searched.{last_of}}
 use Rattle.smp_kernel.proofs.KeptTables.{pushed}
 use Rattle.smp_kernel.proofs.prefixes.Prefixes.add.Goals as goal
 

@@ -1,5 +1,4 @@
-use Rattle.std.proofs.Common.{take, arith}
-use Rattle.std.proofs.lemmas.List.{length-map}
+use Rattle.std.proofs.{Common.{take, arith}, lemmas.List.{length-map}}
 use Rattle.smp_kernel.proofs.Searching.{searching_all, searching_more, searching_wide}
 use Rattle.smp_kernel.proofs.prefixes.Prefixes.search.Goals as goal
 

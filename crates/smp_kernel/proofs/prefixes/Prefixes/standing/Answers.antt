@@ -1,5 +1,4 @@
-use Rattle.std.proofs.Common.{◌≡◌, ◌+◌, ◌-◌, ◌<◌, List, [], ℤ, take, length, get_or, arith, sym, ◌∙◌, subst}
-use Rattle.std.proofs.lemmas.List.{get_or_default}
+use Rattle.std.proofs.{Common.{◌≡◌, ◌+◌, ◌-◌, ◌<◌, List, [], ℤ, take, length, get_or, arith, sym, ◌∙◌, subst}, lemmas.List.{get_or_default}}
 use Rattle.smp_kernel.specs.RowReduction.{cut}
 use Rattle.smp_kernel.proofs.KeptTables.{one_more}
 use Rattle.smp_kernel.proofs.prefixes.Prefixes.standing.Goals as goal

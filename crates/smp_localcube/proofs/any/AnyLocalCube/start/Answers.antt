@@ -1,8 +1,7 @@
 use Rattle.std.proofs.Common.{◌≡◌, sym, ap, subst, ◌∙◌}
 use Rattle.smp_near.specs.Dimensions.{in_any}
 use Rattle.smp_flight.specs.Landings.{IsBalanced}
-use Rattle.smp_localcube.specs.Local.{Local, local_of}
-use Rattle.smp_localcube.specs.Method.{LocalUnits}
+use Rattle.smp_localcube.specs.{Local.{Local, local_of}, Method.{LocalUnits}}
 use Rattle.smp_localcube.proofs.any.AnyLocalCube.start.Goals as goal
 
 -- the design of one of the four numbers of coordinates is the one that is seen

@@ -1,20 +1,13 @@
 use Rattle.std.proofs.Common.{◌≡◌, ◌<◌, ℕ, nat_lt, false, List, [], Some, None, lit<, arith, sym, ap, ◌∙◌, subst}
 use Rattle.smp_values.specs.Values.{fractional_at, fractional_count, is_settled}
-use Rattle.smp_moves.specs.Cubes.{flying}
-use Rattle.smp_flight.specs.Answers.{move_of}
-use Rattle.smp_moves.specs.Moves.{independent}
-use Rattle.smp_flight.specs.Laws.ByOrder.{some_row}
-use Rattle.smp_flight.specs.Laws.NextProperties.{known}
-use Rattle.smp_localcube.specs.Laws.Splits.{order_whole}
-use Rattle.smp_localcube.proofs.Around.{carried_now, searched_by}
-use Rattle.smp_localcube.proofs.Moving.{flown_ready, flown_touched, head_found, may_touch}
-use Rattle.smp_localcube.proofs.Picked.{move_picked, move_within}
-use Rattle.smp_split.specs.Trees.{Part, picked, weight_sum}
-use Rattle.smp_split.specs.Laws.Parts.{picked-equal}
-use Rattle.smp_localcube.specs.Local.{Local, head_of, order_around, parts_from, untouched}
+use Rattle.smp_moves.specs.{Cubes.{flying}, Moves.{independent}}
+use Rattle.smp_flight.specs.{Answers.{move_of}, Laws.ByOrder.{some_row}, Laws.NextProperties.{known}}
+use Rattle.smp_localcube.specs.{Laws.Splits.{order_whole}, Local.{Local, head_of, order_around, parts_from, untouched}}
+use Rattle.smp_localcube.proofs.{Around.{carried_now, searched_by}, Moving.{flown_ready, flown_touched, head_found, may_touch}}
+use Rattle.smp_localcube.proofs.{Picked.{move_picked, move_within}, Chosen.{found_is, found_open}}
+use Rattle.smp_split.specs.{Trees.{Part, picked, weight_sum}, Laws.Parts.{picked-equal}}
 use Rattle.smp_localcube.specs.Kept.States.{step_around, touched_in, weights_of}
 use Rattle.smp_localcube.proofs.Touch.{choice_bound, choice_parts, choice_total, none_head, none_touched}
-use Rattle.smp_localcube.proofs.Chosen.{found_is, found_open}
 use Rattle.smp_localcube.proofs.state.LocalCubeState.advance.Goals as goal
 
 pub find-unit-requires : goal.find-unit-requires

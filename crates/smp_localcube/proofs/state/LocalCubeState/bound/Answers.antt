@@ -1,11 +1,8 @@
 use Rattle.std.proofs.Common.{◌≡◌, None, arith, ◌∙◌, subst}
 use Rattle.smp_split.specs.Trees.{weight_sum}
-use Rattle.smp_flight.specs.Answers.{move_of}
-use Rattle.smp_flight.specs.Laws.ByOrder.{both_ways}
-use Rattle.smp_localcube.specs.Local.{Local, head_of, parts_from}
-use Rattle.smp_localcube.specs.Kept.States.{step_around, touched_in}
-use Rattle.smp_localcube.proofs.Around.{searched_by}
-use Rattle.smp_localcube.proofs.Touch.{choice_bound, none_head}
+use Rattle.smp_flight.specs.{Answers.{move_of}, Laws.ByOrder.{both_ways}}
+use Rattle.smp_localcube.specs.{Local.{Local, head_of, parts_from}, Kept.States.{step_around, touched_in}}
+use Rattle.smp_localcube.proofs.{Around.{searched_by}, Touch.{choice_bound, none_head}}
 use Rattle.smp_localcube.proofs.state.LocalCubeState.bound.Goals as goal
 
 pub overflow_add-result : goal.overflow_add-result

@@ -1,8 +1,7 @@
 use Rattle.std.proofs.Common.{◌≡◌, ◌<◌, ◌∙◌, List, None, lit<, sym, ap, arith}
 use Rattle.smp_split.specs.Trees.{Part, picked}
 use Rattle.smp_values.specs.Values.{fractional_count}
-use Rattle.smp_localpiv.specs.Local.{Local, choosing, neighbour, parts_from}
-use Rattle.smp_localpiv.specs.Kept.States.{chosen_unit}
+use Rattle.smp_localpiv.specs.{Local.{Local, choosing, neighbour, parts_from}, Kept.States.{chosen_unit}}
 use Rattle.smp_localpiv.proofs.Steps.{choice_within, choice_picked, ready, settling_picked}
 use Rattle.smp_localpiv.proofs.state.LocalStateSelectionState.advance.Goals as goal
 

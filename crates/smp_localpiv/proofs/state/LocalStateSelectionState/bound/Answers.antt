@@ -1,7 +1,6 @@
 use Rattle.std.proofs.Common.{◌≡◌, ◌∙◌, true, None, sym, ap, refl, arith}
 use Rattle.smp_values.specs.Values.{is_fractional}
-use Rattle.smp_localpiv.specs.Local.{Local}
-use Rattle.smp_localpiv.specs.Kept.States.{chosen_unit}
+use Rattle.smp_localpiv.specs.{Local.{Local}, Kept.States.{chosen_unit}}
 use Rattle.smp_localpiv.proofs.Steps.{between, choice_bound, meeting_bound, ready}
 use Rattle.smp_localpiv.proofs.state.LocalStateSelectionState.bound.Goals as goal
 

@@ -1,7 +1,5 @@
 use Rattle.std.proofs.Common.{◌≡◌, ℕ, List, [], ◌∷◌, ◌++◌, set, sym, ap, ◌∙◌, codes}
-use Rattle.smp_log.specs.Heads.{IsHead}
-use Rattle.smp_log.specs.Lines.{lines_text}
-use Rattle.smp_log.specs.SectionLogs.{sectioned_head}
+use Rattle.smp_log.specs.{Heads.{IsHead}, Lines.{lines_text}, SectionLogs.{sectioned_head}}
 use Rattle.smp_log.proofs.head.Head.sectioned.Goals as goal
 
 sectioned_bytes : (bytes : List ℕ) → IsHead bytes → set bytes 12 50 ≡ sectioned_head bytes

@@ -1,6 +1,5 @@
 use Rattle.std.proofs.Common.{ap}
-use Rattle.smp_design.specs.Words.{balances, is_near, row}
-use Rattle.smp_design.specs.declared.method.Method.{Method}
+use Rattle.smp_design.specs.{Words.{balances, is_near, row}, declared.method.Method.{Method}}
 use Rattle.smp_methods.proofs.Columns.{balanced_values, few_points, one_each, one_point_each}
 use Rattle.smp_methods.proofs.any.AnyDesign.new.Goals as goal
 

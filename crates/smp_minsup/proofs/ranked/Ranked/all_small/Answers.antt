@@ -1,9 +1,7 @@
 use Rattle.std.proofs.Common.{◌≡◌, ℕ, ◌+◌, ◌<◌, ◌≤◌, false, [], ◌∷◌, ◌++◌, length, get_or, arith, rules, refl, sym, subst, ap, ◌∙◌}
-use Rattle.std.specs.BinaryHeap.{IsHeap, heap_items, heap_capacity}
-use Rattle.std.specs.List.Sorted.{IsPermutation}
+use Rattle.std.specs.{BinaryHeap.{IsHeap, heap_items, heap_capacity}, List.Sorted.{IsPermutation}}
 use Rattle.smp_minsup.specs.Kept.Ranked.{by_numer}
-use Rattle.smp_minsup.proofs.Ranking.{IsFilling, filling_more, filled, first_view, length_view}
-use Rattle.smp_minsup.proofs.Parting.{none_large}
+use Rattle.smp_minsup.proofs.{Ranking.{IsFilling, filling_more, filled, first_view, length_view}, Parting.{none_large}}
 use Rattle.smp_minsup.proofs.ranked.Ranked.all_small.Goals as goal
 
 pub loop-unit-preserved : goal.loop-unit-preserved

@@ -1,9 +1,7 @@
 use Rattle.std.proofs.Common.{◌≡◌, ◌-◌, ◌≤◌, false, ◌∷◌, length, arith, rules, subst, ap, sym, ◌∙◌}
-use Rattle.std.specs.BinaryHeap.{IsHeap, heap_items, heap_len}
-use Rattle.std.specs.List.Sorted.{IsPermutation}
+use Rattle.std.specs.{BinaryHeap.{IsHeap, heap_items, heap_len}, List.Sorted.{IsPermutation}}
 use Rattle.smp_minsup.specs.Kept.Ranked.{RankedUnits, IsLeastLarge, large_count, placed, by_numer}
-use Rattle.smp_minsup.proofs.Ranking.{least_large, some_large, some_true, demoted, down_view, down_within}
-use Rattle.smp_minsup.proofs.Queues.{on_ok, some_taken}
+use Rattle.smp_minsup.proofs.{Ranking.{least_large, some_large, some_true, demoted, down_view, down_within}, Queues.{on_ok, some_taken}}
 use Rattle.smp_minsup.proofs.ranked.Ranked.demote.Goals as goal
 
 pub unreachable-requires : goal.unreachable-requires

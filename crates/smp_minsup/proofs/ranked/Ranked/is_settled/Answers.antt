@@ -1,5 +1,4 @@
-use Rattle.std.proofs.Common.{◌≡◌, nat_eq, ◌&&◌, true, false, length, ap, sym, ◌∙◌}
-use Rattle.std.proofs.lemmas.Bool.{eq-eqb, ne_eqb}
+use Rattle.std.proofs.{Common.{◌≡◌, nat_eq, ◌&&◌, true, false, length, ap, sym, ◌∙◌}, lemmas.Bool.{eq-eqb, ne_eqb}}
 use Rattle.smp_minsup.specs.Kept.Ranked.{largest_small, least_large}
 use Rattle.smp_minsup.proofs.States.{done_is}
 use Rattle.smp_minsup.proofs.ranked.Ranked.is_settled.Goals as goal

@@ -1,5 +1,4 @@
-use Rattle.std.proofs.Common.{◌≡◌, ◌-◌, ◌<◌, true, false, length, get_or, arith, rules, ap, sym, ◌∙◌}
-use Rattle.std.proofs.lemmas.Grind.{get_or_default_zero}
+use Rattle.std.proofs.{Common.{◌≡◌, ◌-◌, ◌<◌, true, false, length, get_or, arith, rules, ap, sym, ◌∙◌}, lemmas.Grind.{get_or_default_zero}}
 use Rattle.std.proofs.lemmas.List.{get_or_default}
 use Rattle.std.specs.Vec.{vec_len}
 use Rattle.smp_minsup.specs.Kept.Ranked.{RankedUnits, is_in}

@@ -1,5 +1,4 @@
-use Rattle.std.proofs.Common.{◌≡◌, ◌<◌, false, true, sym, subst, ap, ◌∙◌}
-use Rattle.std.proofs.lemmas.Bool.{OnTrue_at}
+use Rattle.std.proofs.{Common.{◌≡◌, ◌<◌, false, true, sym, subst, ap, ◌∙◌}, lemmas.Bool.{OnTrue_at}}
 use Rattle.smp_minsup.specs.Kept.Ranked.{RankedUnits, IsMixed, IsLeastLarge, placed}
 use Rattle.smp_minsup.proofs.Parting.{IsExchanged, disorder, mixed_fewer, exchange_falls, exchange_keeps, exchanged_trans}
 use Rattle.smp_minsup.proofs.ranked.Ranked.part.Goals as goal

@@ -1,6 +1,5 @@
 use Rattle.std.proofs.Common.{◌≡◌, ℕ, ◌+◌, ◌^◌, ◌<◌, ◌≤◌, true, ◌∷◌, length, get_or, arith, rules, subst, ap, sym, ◌∙◌}
-use Rattle.std.specs.BinaryHeap.{IsHeap, heap_items, heap_len}
-use Rattle.std.specs.List.Sorted.{IsPermutation}
+use Rattle.std.specs.{BinaryHeap.{IsHeap, heap_items, heap_len}, List.Sorted.{IsPermutation}}
 use Rattle.smp_minsup.specs.Kept.Ranked.{RankedUnits, IsMostSmall, large_count, placed, by_numer_reversed}
 use Rattle.smp_minsup.proofs.Ranking.{length_view, at_small, small_known, small_in, small_numer, most_small, some_small, some_false, promoted, up_view}
 use Rattle.smp_minsup.proofs.Queues.{on_ok, some_taken}

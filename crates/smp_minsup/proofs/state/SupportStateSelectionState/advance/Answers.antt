@@ -1,7 +1,6 @@
 use Rattle.std.proofs.Common.{◌≡◌, ℕ, ◌-◌, ◌^◌, ◌<◌, List, length, get_or, arith, sym, subst, ap, ◌∙◌}
-use Rattle.smp_minsup.specs.Support.{lambda, settled, lowered}
+use Rattle.smp_minsup.specs.{Support.{lambda, settled, lowered}, Laws.Splits.{lambda_less}}
 use Rattle.smp_minsup.specs.Kept.Ranked.{RankedUnits, large_count, lowered_by, shares_over, shares_kept}
-use Rattle.smp_minsup.specs.Laws.Splits.{lambda_less}
 use Rattle.smp_minsup.proofs.States.{opened, lower_within, lowered_paired, lowered_is, lowered_narrow, cut_again, settled_is, picked_settled, picked_lowered}
 use Rattle.smp_minsup.proofs.state.SupportStateSelectionState.advance.Goals as goal
 

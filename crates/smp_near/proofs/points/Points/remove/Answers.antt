@@ -1,7 +1,6 @@
 use Rattle.std.proofs.Common.{◌≡◌, ◌<◌, ◌∙◌, ℕ, ℤ, Bool, List, true, false, length, get_or, set, sym, ap, subst, arith, rules}
 use Rattle.std.proofs.lemmas.List.{get_or_read}
-use Rattle.smp_near.specs.Nearest.{LivingPoints, is_living}
-use Rattle.smp_near.specs.Kept.Trees.{lives_at, points_of}
+use Rattle.smp_near.specs.{Nearest.{LivingPoints, is_living}, Kept.Trees.{lives_at, points_of}}
 use Rattle.smp_near.proofs.Places.{unit_in, place_in, place_alive, place_alone, left_living}
 use Rattle.smp_near.proofs.points.Points.remove.Goals as goal
 

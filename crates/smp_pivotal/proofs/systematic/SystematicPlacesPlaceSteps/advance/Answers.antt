@@ -1,7 +1,5 @@
 use Rattle.std.proofs.Common.{◌<◌, ◌∙◌, sym}
-use Rattle.smp_split.specs.Parts.{equal_parts}
-use Rattle.smp_split.specs.Trees.{weight_sum}
-use Rattle.smp_split.specs.Laws.Parts.{weight_sum-equal, picked-equal}
+use Rattle.smp_split.specs.{Parts.{equal_parts}, Trees.{weight_sum}, Laws.Parts.{weight_sum-equal, picked-equal}}
 use Rattle.smp_pivotal.specs.Systematic.{sampled}
 use Rattle.smp_pivotal.proofs.systematic.SystematicPlacesPlaceSteps.advance.Goals as goal
 

@@ -1,5 +1,4 @@
-use Rattle.std.proofs.Common.{arith}
-use Rattle.std.proofs.lemmas.Grind.{common_steps}
+use Rattle.std.proofs.{Common.{arith}, lemmas.Grind.{common_steps}}
 use Rattle.smp_prob.proofs.Fractions.{numerator_is_free_fraction}
 use Rattle.smp_prob.proofs.requests.Request.numerators.Goals as goal
 

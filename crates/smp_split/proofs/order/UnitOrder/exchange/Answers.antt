@@ -1,6 +1,5 @@
 use Rattle.std.proofs.Common.{◌≡◌, ◌+◌, ◌-◌, ◌<◌, ◌≤◌, Bool, true, false, List, ℕ, length, map, get_or, arith, sym, ap, ◌∙◌, inl, inr, rules}
-use Rattle.std.proofs.lemmas.Bool.{cases_Bool}
-use Rattle.std.proofs.lemmas.Grind.{get_or_default_zero}
+use Rattle.std.proofs.{lemmas.Bool.{cases_Bool}, lemmas.Grind.{get_or_default_zero}}
 use Rattle.smp_split.specs.Orders.{IsMirrored, Placing, exchange}
 use Rattle.smp_split.proofs.Mirrors.{exchanged_places, mirrored_after}
 use Rattle.smp_split.proofs.order.UnitOrder.exchange.Goals as goal

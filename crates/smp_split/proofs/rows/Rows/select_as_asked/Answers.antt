@@ -1,8 +1,6 @@
 use Rattle.smp_frac.proofs.Arithmetic.{same_trans}
-use Rattle.smp_split.specs.Laws.Means.{probability_is_value}
-use Rattle.smp_split.specs.Laws.Rows.{rows_method}
-use Rattle.smp_split.proofs.RowsAround.{rows_around}
-use Rattle.smp_split.proofs.RowsAsked.{value_is_asked, rows_select}
+use Rattle.smp_split.specs.{Laws.Means.{probability_is_value}, Laws.Rows.{rows_method}}
+use Rattle.smp_split.proofs.{RowsAround.{rows_around}, RowsAsked.{value_is_asked, rows_select}}
 use Rattle.smp_split.proofs.rows.Rows.select_as_asked.Goals as goal
 
 pub returns-clause-probability : goal.returns-clause-probability

@@ -1,10 +1,8 @@
 use Rattle.std.proofs.Common.{◌≡◌, None, Some, sym, ◌∙◌}
 use Rattle.std.specs.List.{slice_get}
-use Rattle.smp_split.specs.Stages.{within_of}
-use Rattle.smp_split.proofs.Scans.{within_read, drawn_read, unit_inside, first_done}
+use Rattle.smp_split.specs.{Stages.{within_of}, Methods.{trees}}
+use Rattle.smp_split.proofs.{Scans.{within_read, drawn_read, unit_inside, first_done}, stages.Stages.is_drawn.Goals.{In-Some}}
 use Rattle.smp_split.proofs.stages.Stages.is_drawn.Goals as goal
-use Rattle.smp_split.proofs.stages.Stages.is_drawn.Goals.{In-Some}
-use Rattle.smp_split.specs.Methods.{trees}
 use Rattle.smp_split.proofs.stages.Stages.is_drawn.Given.{Over}
 
 within : (g : Over) (c : In-Some g) → within_of (slice_get c.args.self.now.stages.items c.args.number) ≡ Some c.in-Some.place

@@ -1,11 +1,7 @@
-use Rattle.std.proofs.Common.{◌≡◌, ◌<◌, true, length, arith, sym, ◌∙◌}
+use Rattle.std.proofs.{Common.{◌≡◌, ◌<◌, true, length, arith, sym, ◌∙◌}, lemmas.Option.{slice_get_within}}
 use Rattle.std.specs.List.{slice_get}
-use Rattle.std.proofs.lemmas.Option.{slice_get_within}
-use Rattle.smp_split.specs.Stages.{Progress, is_drawn}
-use Rattle.smp_split.specs.Laws.Staged.{some_stage}
-use Rattle.smp_split.specs.Laws.Turns.{done_where_drawn}
+use Rattle.smp_split.specs.{Stages.{Progress, is_drawn}, Laws.Staged.{some_stage}, Laws.Turns.{done_where_drawn}, Methods.{owns, trees}}
 use Rattle.smp_split.proofs.Stepped.{none_waits_inside}
-use Rattle.smp_split.specs.Methods.{owns, trees}
 use Rattle.smp_split.proofs.stages.Stages.is_selected_in.Goals as goal
 
 pub is_drawn-requires-clause-passed : goal.is_drawn-requires-clause-passed

@@ -1,6 +1,5 @@
 use Rattle.std.proofs.Common.{◌≤◌, length, arith, sym, ◌∙◌}
-use Rattle.smp_split.specs.Laws.Turns.{next_is}
-use Rattle.smp_split.specs.Methods.{trees}
+use Rattle.smp_split.specs.{Laws.Turns.{next_is}, Methods.{trees}}
 use Rattle.smp_split.proofs.stages.Stages.next_from.Goals as goal
 
 pub returns-then-waits : goal.returns-then-waits

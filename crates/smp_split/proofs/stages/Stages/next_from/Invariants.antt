@@ -1,6 +1,5 @@
 use Rattle.std.proofs.Common.{◌≡◌, ℕ, ◌<◌, false}
-use Rattle.smp_split.specs.Stages.{waits}
-use Rattle.smp_split.specs.Methods.{trees}
+use Rattle.smp_split.specs.{Stages.{waits}, Methods.{trees}}
 use Rattle.smp_split.proofs.stages.Stages.next_from.Given as goal
 
 -- no stage so far waits

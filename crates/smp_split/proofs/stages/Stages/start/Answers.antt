@@ -1,7 +1,6 @@
 use Rattle.std.proofs.Common.{◌≡◌, ap}
-use Rattle.smp_split.specs.Stages.{Progress, next_stage, progress}
+use Rattle.smp_split.specs.{Stages.{Progress, next_stage, progress}, Methods.{owns, trees}}
 use Rattle.smp_split.proofs.StageStarts.{starts_in_stages}
-use Rattle.smp_split.specs.Methods.{owns, trees}
 use Rattle.smp_split.proofs.stages.Stages.start.Goals as goal
 
 pub returns-clause-starts : goal.returns-clause-starts

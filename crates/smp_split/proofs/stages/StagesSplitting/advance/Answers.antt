@@ -1,7 +1,6 @@
 use Rattle.std.proofs.Common.{◌≡◌, ℕ, ◌<◌, ap, subst, ◌∙◌}
-use Rattle.smp_split.specs.Stages.{Progress, progress, next_stage}
+use Rattle.smp_split.specs.{Stages.{Progress, progress, next_stage}, Methods.{owns, trees}}
 use Rattle.smp_split.proofs.Stepped.{goes_on, bound_inside, stepped_inside}
-use Rattle.smp_split.specs.Methods.{owns, trees}
 use Rattle.smp_split.proofs.stages.StagesSplitting.advance.Goals as goal
 
 pub step-requires-clause-waits : goal.step-requires-clause-waits

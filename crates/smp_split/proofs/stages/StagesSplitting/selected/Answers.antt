@@ -1,9 +1,7 @@
 use Rattle.std.proofs.Common.{◌≡◌, Some, sym, ap, subst, ◌∙◌}
 use Rattle.std.specs.List.{slice_get}
-use Rattle.smp_split.specs.Stages.{Progress, seat_selected, unit_selected}
-use Rattle.smp_split.proofs.Scans.{read_at}
-use Rattle.smp_split.proofs.Stepped.{none_waits_inside}
-use Rattle.smp_split.specs.Methods.{owns, trees}
+use Rattle.smp_split.specs.{Stages.{Progress, seat_selected, unit_selected}, Methods.{owns, trees}}
+use Rattle.smp_split.proofs.{Scans.{read_at}, Stepped.{none_waits_inside}}
 use Rattle.smp_split.proofs.stages.StagesSplitting.selected.Goals as goal
 
 pub selects_seat-requires-clause-ended : goal.selects_seat-requires-clause-ended

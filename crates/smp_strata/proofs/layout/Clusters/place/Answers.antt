@@ -1,5 +1,4 @@
-use Rattle.std.proofs.Common.{ℕ, sym}
-use Rattle.std.proofs.lemmas.List.{get_or-map}
+use Rattle.std.proofs.{Common.{ℕ, sym}, lemmas.List.{get_or-map}}
 use Rattle.smp_strata.proofs.layout.Clusters.place.Goals as goal
 
 pub returns-in-None : goal.returns-in-None

@@ -1,19 +1,10 @@
-use Rattle.std.proofs.Common.{ℕ, List, length, arith, refl, sym, ap, ap₂, ◌∙◌, subst}
-use Rattle.std.proofs.lemmas.List.{length-map}
+use Rattle.std.proofs.{Common.{ℕ, List, length, arith, refl, sym, ap, ap₂, ◌∙◌, subst}, lemmas.List.{length-map}}
 use Rattle.smp_moves.specs.Cubes.{flying}
-use Rattle.smp_stratcube.specs.declared.values.Value.{Value}
-use Rattle.smp_stratcube.specs.Units.{IsUnits, Units}
-use Rattle.smp_stratcube.specs.States.{started}
-use Rattle.smp_stratcube.specs.Kept.States.{requested_value}
-use Rattle.smp_stratcube.specs.Balances.{IsBalanced}
-use Rattle.smp_stratcube.specs.Counts.{HasCounts}
+use Rattle.smp_stratcube.specs.{declared.values.Value.{Value}, Units.{IsUnits, Units}, States.{started}, Kept.States.{requested_value}}
+use Rattle.smp_stratcube.specs.{Balances.{IsBalanced}, Counts.{HasCounts}, Method.{method_of}, Kept.Computed.{flight_of}}
 use Rattle.smp_split.specs.Methods.{HasMeans}
-use Rattle.smp_stratcube.specs.Method.{method_of}
-use Rattle.smp_stratcube.specs.Kept.Computed.{flight_of}
 use Rattle.smp_stratcube.specs.Kept.Fronts.{IsFront}
-use Rattle.smp_stratcube.proofs.Balances.{started_flying}
-use Rattle.smp_stratcube.proofs.BySteps.{counts_so, is_balanced}
-use Rattle.smp_stratcube.proofs.Keeping.{step_there}
+use Rattle.smp_stratcube.proofs.{Balances.{started_flying}, BySteps.{counts_so, is_balanced}, Keeping.{step_there}}
 use Rattle.smp_stratcube.proofs.Starting.{start_ahead, strat_means}
 use Rattle.smp_stratcube.proofs.design.StratCube.start.Goals as goal
 

@@ -1,9 +1,6 @@
 use Rattle.std.proofs.Common.{◌≡◌, ◌<◌, sym, subst}
 use Rattle.smp_split.specs.Trees.{picked, weight_sum}
-use Rattle.smp_stratcube.specs.Units.{Units}
-use Rattle.smp_stratcube.specs.Moves.{Stepping}
-use Rattle.smp_stratcube.specs.Steps.{from_steps, of_steps, stepping}
-use Rattle.smp_stratcube.specs.Kept.Trees.{parts_by}
+use Rattle.smp_stratcube.specs.{Units.{Units}, Moves.{Stepping}, Steps.{from_steps, of_steps, stepping}, Kept.Trees.{parts_by}}
 use Rattle.smp_stratcube.proofs.design.StratCubeSplitting.advance.Goals as goal
 
 pub advance-requires-clause-within : goal.advance-requires-clause-within

@@ -1,9 +1,6 @@
 use Rattle.std.proofs.Common.{◌≡◌, subst}
 use Rattle.smp_split.specs.Trees.{weight_sum}
-use Rattle.smp_stratcube.specs.Units.{Units}
-use Rattle.smp_stratcube.specs.Moves.{Stepping}
-use Rattle.smp_stratcube.specs.Steps.{of_steps, stepping}
-use Rattle.smp_stratcube.specs.Kept.Trees.{parts_by}
+use Rattle.smp_stratcube.specs.{Units.{Units}, Moves.{Stepping}, Steps.{of_steps, stepping}, Kept.Trees.{parts_by}}
 use Rattle.smp_stratcube.proofs.design.StratCubeSplitting.bound.Goals as goal
 
 pub returns : goal.returns

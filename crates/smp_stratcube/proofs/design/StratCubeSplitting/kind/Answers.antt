@@ -1,8 +1,5 @@
 use Rattle.std.proofs.Common.{◌≡◌, subst}
-use Rattle.smp_stratcube.specs.Units.{Units}
-use Rattle.smp_stratcube.specs.Moves.{Stepping}
-use Rattle.smp_stratcube.specs.Steps.{of_steps, stepping}
-use Rattle.smp_stratcube.specs.Kept.Trees.{kind_by}
+use Rattle.smp_stratcube.specs.{Units.{Units}, Moves.{Stepping}, Steps.{of_steps, stepping}, Kept.Trees.{kind_by}}
 use Rattle.smp_stratcube.proofs.design.StratCubeSplitting.kind.Goals as goal
 
 pub returns : goal.returns

@@ -1,6 +1,5 @@
 use Rattle.std.proofs.Common.{sym, subst}
-use Rattle.smp_stratcube.specs.Layers.{IsLayer}
-use Rattle.smp_stratcube.specs.Kept.Layers.{EachIsLayer}
+use Rattle.smp_stratcube.specs.{Layers.{IsLayer}, Kept.Layers.{EachIsLayer}}
 use Rattle.smp_stratcube.proofs.Stored.{layer_is, push_each}
 use Rattle.smp_stratcube.proofs.layers.Layers.push.Goals as goal
 

@@ -1,20 +1,11 @@
 use Rattle.std.proofs.Common.{arith, ◌≡◌, ◌-◌, ◌<◌, nat_lt, false, List, length, sym, ap, ◌∙◌, subst}
 use Rattle.smp_split.specs.Trees.{weight_sum}
-use Rattle.smp_moves.specs.Answers.{line_of}
-use Rattle.smp_moves.specs.Cubes.{flying, landed, pairing}
-use Rattle.smp_stratcube.specs.declared.values.Value.{Value}
-use Rattle.smp_stratcube.specs.Values.{fractional_count, is_settled}
-use Rattle.smp_stratcube.specs.Kept.Computed.{chosen, flight_of}
-use Rattle.smp_stratcube.specs.Pairs.{paired_parts}
-use Rattle.smp_stratcube.specs.States.{IsFlying, IsPairing}
-use Rattle.smp_stratcube.specs.Kept.Fronts.{IsAhead, IsFront}
-use Rattle.smp_stratcube.specs.Laws.Splits.{dropped_flight, some_row}
-use Rattle.smp_stratcube.specs.Units.{Units}
-use Rattle.smp_stratcube.specs.Kept.Moves.{IsMoveOf}
+use Rattle.smp_moves.specs.{Answers.{line_of}, Cubes.{flying, landed, pairing}, Kept.Computed.{next_along}}
+use Rattle.smp_stratcube.specs.{declared.values.Value.{Value}, Values.{fractional_count, is_settled}, Kept.Computed.{chosen, flight_of}}
+use Rattle.smp_stratcube.specs.{Pairs.{paired_parts}, States.{IsFlying, IsPairing}, Kept.Fronts.{IsAhead, IsFront}, Units.{Units}}
+use Rattle.smp_stratcube.specs.{Laws.Splits.{dropped_flight, some_row}, Kept.Moves.{IsMoveOf}, Moves.{setting_of}}
 use Rattle.smp_stratcube.proofs.Keeping.{move_ahead, move_count, move_flight, own_flight, pair_ahead, pair_behind, pair_sum, picks_drop, picks_move, picks_pair, picks_wide, step_by, step_there}
 use Rattle.smp_stratcube.proofs.state.StratCubeState.advance.Goals as goal
-use Rattle.smp_moves.specs.Kept.Computed.{next_along}
-use Rattle.smp_stratcube.specs.Moves.{setting_of}
 
 pub overflow_sub-self : goal.overflow_sub-self
 overflow_sub-self c =

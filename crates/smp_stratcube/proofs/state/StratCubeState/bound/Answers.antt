@@ -1,17 +1,10 @@
 use Rattle.std.proofs.Common.{arith, ◌≡◌, ◌+◌, List, sym, ap, ◌∙◌}
 use Rattle.smp_split.specs.Trees.{weight_sum}
-use Rattle.smp_moves.specs.Answers.{line_of}
-use Rattle.smp_moves.specs.Moves.{Next}
-use Rattle.smp_stratcube.specs.declared.values.Value.{Value}
-use Rattle.smp_stratcube.specs.Kept.Computed.{flight_of}
-use Rattle.smp_stratcube.specs.Pairs.{paired_parts}
-use Rattle.smp_stratcube.specs.States.{IsFlying}
-use Rattle.smp_stratcube.specs.Kept.Trees.{flight_parts}
-use Rattle.smp_stratcube.specs.Laws.Moves.{move_split}
+use Rattle.smp_moves.specs.{Answers.{line_of}, Moves.{Next}, Kept.Computed.{next_along}}
+use Rattle.smp_stratcube.specs.{declared.values.Value.{Value}, Kept.Computed.{flight_of}, Pairs.{paired_parts}, States.{IsFlying}}
+use Rattle.smp_stratcube.specs.{Kept.Trees.{flight_parts}, Laws.Moves.{move_split}, Moves.{setting_of}}
 use Rattle.smp_stratcube.proofs.Keeping.{pair_sum, step_by}
 use Rattle.smp_stratcube.proofs.state.StratCubeState.bound.Goals as goal
-use Rattle.smp_moves.specs.Kept.Computed.{next_along}
-use Rattle.smp_stratcube.specs.Moves.{setting_of}
 
 pub overflow_add-result : goal.overflow_add-result
 overflow_add-result c =

@@ -1,8 +1,6 @@
-use Rattle.std.proofs.Common.{arith, ◌≡◌, ◌<◌, nat_eq, List, length, sym, ap, ◌∙◌, subst}
-use Rattle.std.proofs.lemmas.List.{get_or_read}
+use Rattle.std.proofs.{Common.{arith, ◌≡◌, ◌<◌, nat_eq, List, length, sym, ap, ◌∙◌, subst}, lemmas.List.{get_or_read}}
 use Rattle.smp_moves.specs.Cubes.{values_in}
-use Rattle.smp_stratcube.specs.declared.values.Value.{Value}
-use Rattle.smp_stratcube.specs.Values.{is_one, nothing, value}
+use Rattle.smp_stratcube.specs.{declared.values.Value.{Value}, Values.{is_one, nothing, value}}
 use Rattle.smp_stratcube.proofs.Keeping.{values_of}
 use Rattle.smp_stratcube.proofs.state.StratCubeState.is_one.Goals as goal
 

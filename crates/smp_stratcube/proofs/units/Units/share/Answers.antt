@@ -1,8 +1,5 @@
-use Rattle.std.proofs.Common.{◌≡◌, ◌≤◌, ◌^◌, arith, sym, ap, ◌∙◌, subst}
-use Rattle.std.proofs.Math.Nat.{le_of_dvd}
-use Rattle.std.proofs.lemmas.List.{get_or_read}
-use Rattle.smp_stratcube.specs.declared.units.Member.{Member}
-use Rattle.smp_stratcube.specs.Units.{Units, first, member, nobody, share, stratum}
+use Rattle.std.proofs.{Common.{◌≡◌, ◌≤◌, ◌^◌, arith, sym, ap, ◌∙◌, subst}, Math.Nat.{le_of_dvd}, lemmas.List.{get_or_read}}
+use Rattle.smp_stratcube.specs.{declared.units.Member.{Member}, Units.{Units, first, member, nobody, share, stratum}}
 use Rattle.smp_stratcube.proofs.units.Units.share.Goals as goal
 
 pub returns-clause-most : goal.returns-clause-most

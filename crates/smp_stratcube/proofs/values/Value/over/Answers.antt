@@ -1,5 +1,4 @@
-use Rattle.std.proofs.Common.{◌*◌, ◌/◌, ◌≤◌, arith}
-use Rattle.std.proofs.Math.Nat.{mul-le-mul_right}
+use Rattle.std.proofs.{Common.{◌*◌, ◌/◌, ◌≤◌, arith}, Math.Nat.{mul-le-mul_right}}
 use Rattle.smp_stratcube.proofs.Parts.{times-div}
 use Rattle.smp_stratcube.proofs.values.Value.over.Goals as goal
 

@@ -1,8 +1,6 @@
 use Rattle.std.proofs.Common.{ap, ◌∙◌}
 use Rattle.rand_chacha.specs.ChaCha.{key_of}
-use Rattle.smp_tape.specs.Keys.{Place}
-use Rattle.smp_tape.specs.SieveSources.{key_stream}
-use Rattle.smp_tape.specs.Streams.{ahead}
+use Rattle.smp_tape.specs.{Keys.{Place}, SieveSources.{key_stream}, Streams.{ahead}}
 use Rattle.smp_tape.proofs.Moves.{words_from_start}
 use Rattle.smp_tape.proofs.chacha.ChaChaWords.new.Goals as goal
 

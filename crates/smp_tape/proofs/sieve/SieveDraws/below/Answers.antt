@@ -1,10 +1,7 @@
-use Rattle.std.proofs.Common.{◌≡◌, ℕ, ◌<◌, Result, refl, subst, arith}
-use Rattle.std.proofs.lemmas.Bool.{lt-ltb}
-use Rattle.smp_tape.specs.declared.draws.DrawFault.{DrawFault}
-use Rattle.smp_tape.specs.Sieves.{first_below, sieve_draw, sieve_next}
+use Rattle.std.proofs.{Common.{◌≡◌, ℕ, ◌<◌, Result, refl, subst, arith}, lemmas.Bool.{lt-ltb}}
+use Rattle.smp_tape.specs.{declared.draws.DrawFault.{DrawFault}, Sieves.{first_below, sieve_draw, sieve_next}, Laws.Sieves.{draw_idle}}
 use Rattle.smp_tape.specs.Streams.{Stream, ahead, behind}
 use Rattle.smp_tape.proofs.Fairness.{fair}
-use Rattle.smp_tape.specs.Laws.Sieves.{draw_idle}
 use Rattle.smp_tape.proofs.sieve.SieveDraws.below.Goals as goal
 
 draw_more : (words : ℕ → ℕ) (bound : ℕ) → 1 < bound → sieve_draw words bound ≡ first_below 256 words 0 bound

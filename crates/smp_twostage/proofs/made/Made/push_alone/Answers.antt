@@ -1,10 +1,7 @@
 use Rattle.std.proofs.Common.{◌≡◌, ◌∷◌, [], ◌++◌, Some, length, rules, sym, ap, ◌∙◌}
-use Rattle.std.specs.List.{slice_get}
-use Rattle.std.specs.Vec.{vec_len}
-use Rattle.smp_twostage.specs.Laws.Covered.{strata_are}
-use Rattle.smp_twostage.specs.Selections.{parts_by, stages_of}
-use Rattle.smp_twostage.proofs.Columns.{stratum_at}
-use Rattle.smp_twostage.proofs.Alone.{alone_made}
+use Rattle.std.specs.{List.{slice_get}, Vec.{vec_len}}
+use Rattle.smp_twostage.specs.{Laws.Covered.{strata_are}, Selections.{parts_by, stages_of}}
+use Rattle.smp_twostage.proofs.{Columns.{stratum_at}, Alone.{alone_made}}
 use Rattle.smp_twostage.proofs.made.Made.push_alone.Goals as goal
 
 pub returns-clause-stages : goal.returns-clause-stages

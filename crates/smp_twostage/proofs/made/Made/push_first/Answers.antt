@@ -1,7 +1,6 @@
 use Rattle.std.proofs.Common.{◌≡◌, ℤ, List, ◌∷◌, [], ◌++◌, None, OnOk, length, ap, subst, ◌∙◌}
 use Rattle.smp_design.specs.declared.procedure.Procedure.{Procedure}
-use Rattle.smp_methods.specs.declared.any.AnyDesign.{AnyDesign}
-use Rattle.smp_methods.specs.Designs.{design_of}
+use Rattle.smp_methods.specs.{declared.any.AnyDesign.{AnyDesign}, Designs.{design_of}}
 use Rattle.smp_methods.proofs.Wholes.{needs_of}
 use Rattle.smp_strata.specs.declared.strata.FirstUnit.{FirstUnit}
 use Rattle.smp_twostage.specs.Selections.{Selecting, first_stage}

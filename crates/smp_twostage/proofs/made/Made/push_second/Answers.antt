@@ -1,10 +1,8 @@
 use Rattle.std.proofs.Common.{◌≡◌, ℕ, List, ◌∷◌, [], ◌++◌, OnOk, Some, length, sym, ap, subst, ◌∙◌}
-use Rattle.smp_design.specs.declared.procedure.Procedure.{Procedure}
-use Rattle.smp_design.specs.Procedures.{without_values}
+use Rattle.smp_design.specs.{declared.procedure.Procedure.{Procedure}, Procedures.{without_values}}
 use Rattle.smp_design.proofs.Rows.{bare}
 use Rattle.smp_methods.specs.Designs.{design_of}
-use Rattle.smp_methods.proofs.Columns.{takes_none}
-use Rattle.smp_methods.proofs.Wholes.{needs_whole}
+use Rattle.smp_methods.proofs.{Columns.{takes_none}, Wholes.{needs_whole}}
 use Rattle.smp_twostage.specs.Selections.{Selecting}
 use Rattle.smp_twostage.proofs.made.Made.push_second.Goals as goal
 

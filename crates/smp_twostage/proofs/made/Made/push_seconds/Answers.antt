@@ -1,6 +1,5 @@
-use Rattle.std.proofs.Common.{◌≡◌, ◌<◌, Some, length, arith, refl}
+use Rattle.std.proofs.{Common.{◌≡◌, ◌<◌, Some, length, arith, refl}, lemmas.Option.{slice_get_read}}
 use Rattle.std.specs.List.{slice_get}
-use Rattle.std.proofs.lemmas.Option.{slice_get_read}
 use Rattle.smp_twostage.proofs.Built.{next_within}
 use Rattle.smp_twostage.proofs.made.Made.push_seconds.Goals as goal
 

@@ -1,6 +1,5 @@
 use Rattle.std.proofs.Common.{◌≡◌, ◌++◌, Some}
-use Rattle.smp_twostage.specs.Kept.Stages.{EachStarts}
-use Rattle.smp_twostage.specs.Selections.{stages_within}
+use Rattle.smp_twostage.specs.{Kept.Stages.{EachStarts}, Selections.{stages_within}}
 use Rattle.smp_twostage.proofs.made.Made.push_seconds.Given as goal
 
 abbrev pub invariant-loop-unit : goal.invariant-loop-unit

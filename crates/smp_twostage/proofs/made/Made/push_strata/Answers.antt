@@ -1,9 +1,7 @@
 use Rattle.std.proofs.Common.{◌≡◌, suc, [], ◌∷◌, ◌++◌, Some, length, map, arith, rules, sym, ap, ◌∙◌}
-use Rattle.std.specs.List.{range_with_len, slice_get}
-use Rattle.std.specs.Vec.{vec_len}
+use Rattle.std.specs.{List.{range_with_len, slice_get}, Vec.{vec_len}}
 use Rattle.smp_twostage.specs.Selections.{first_number}
-use Rattle.smp_twostage.proofs.Columns.{stratum_at}
-use Rattle.smp_twostage.proofs.Built.{last_number, next_below, next_number}
+use Rattle.smp_twostage.proofs.{Columns.{stratum_at}, Built.{last_number, next_below, next_number}}
 use Rattle.smp_twostage.proofs.made.Made.push_strata.Goals as goal
 
 pub loop-number-preserved : goal.loop-number-preserved

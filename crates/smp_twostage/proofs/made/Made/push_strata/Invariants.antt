@@ -1,7 +1,6 @@
 use Rattle.std.proofs.Common.{◌≡◌, map}
 use Rattle.std.specs.List.{range_with_len}
-use Rattle.smp_twostage.specs.Kept.Stages.{EachStarts}
-use Rattle.smp_twostage.specs.Selections.{first_number, stages_below}
+use Rattle.smp_twostage.specs.{Kept.Stages.{EachStarts}, Selections.{first_number, stages_below}}
 use Rattle.smp_twostage.proofs.made.Made.push_strata.Given as goal
 
 abbrev pub invariant-loop-number : goal.invariant-loop-number

@@ -1,17 +1,12 @@
 use Rattle.std.proofs.Common.{◌≡◌, ℕ, List, [], ◌∷◌, ◌++◌, None, arith, sym, ap, ap₂, subst, ◌∙◌}
 use Rattle.smp_prob.specs.declared.requests.Request.{Request}
-use Rattle.smp_methods.specs.declared.any.AnyDesign.{AnyDesign}
-use Rattle.smp_methods.specs.declared.any.AnyState.{AnyState}
-use Rattle.smp_methods.specs.declared.start.Started.{Started}
-use Rattle.smp_methods.specs.Designs.{design_of_strata, first_state}
-use Rattle.smp_methods.specs.Starts.{AreStarted}
+use Rattle.smp_methods.specs.{declared.any.AnyDesign.{AnyDesign}, declared.any.AnyState.{AnyState}, declared.start.Started.{Started}}
+use Rattle.smp_methods.specs.{Designs.{design_of_strata, first_state}, Starts.{AreStarted}}
 use Rattle.smp_split.specs.declared.places.Stage.{Stage}
 use Rattle.smp_strata.specs.Plans.{Plan}
 use Rattle.smp_stratcube.specs.Layers.{AreLayers, Layer}
-use Rattle.smp_twostage.specs.Kept.Stages.{EachFirst}
-use Rattle.smp_twostage.specs.Selections.{Selecting, layers_of, request_over, stage_of_strata, unit_count}
-use Rattle.smp_twostage.proofs.Layers.{are_layers, few_strata}
-use Rattle.smp_twostage.proofs.Together.{stage_first}
+use Rattle.smp_twostage.specs.{Kept.Stages.{EachFirst}, Selections.{Selecting, layers_of, request_over, stage_of_strata, unit_count}}
+use Rattle.smp_twostage.proofs.{Layers.{are_layers, few_strata}, Together.{stage_first}}
 use Rattle.smp_twostage.proofs.made.Made.push_together.Goals as goal
 
 -- the stage of all strata, and what it starts with

@@ -1,7 +1,6 @@
 use Rattle.std.proofs.Common.{◌<◌, length, arith}
 use Rattle.smp_twostage.specs.Selections.{covered_stages, first_place}
-use Rattle.smp_twostage.proofs.Columns.{is_planned}
-use Rattle.smp_twostage.proofs.Inside.{IsPlaced, first_is, inside_units, member, placed, stratum_there}
+use Rattle.smp_twostage.proofs.{Columns.{is_planned}, Inside.{IsPlaced, first_is, inside_units, member, placed, stratum_there}}
 use Rattle.smp_twostage.proofs.whole.Whole.first.Goals as goal
 
 pub first_place-requires-clause-unit : goal.first_place-requires-clause-unit

@@ -1,15 +1,10 @@
 use Rattle.std.proofs.Common.{◌≡◌, true, false, length, Some, arith, sym, ap, subst, ◌∙◌}
 use Rattle.std.specs.Prelude.{IfOk}
-use Rattle.smp_design.specs.declared.procedure.Procedure.{Procedure}
-use Rattle.smp_design.specs.Words.{draws_together}
+use Rattle.smp_design.specs.{declared.procedure.Procedure.{Procedure}, Words.{draws_together}}
 use Rattle.smp_split.specs.Laws.Reads.{some_within}
-use Rattle.smp_twostage.specs.Covered.{StartsAlone}
-use Rattle.smp_twostage.specs.Kept.Stages.{EachStarts}
+use Rattle.smp_twostage.specs.{Covered.{StartsAlone}, Kept.Stages.{EachStarts}, Kept.Sides.{states_of, section_count_by}}
 use Rattle.smp_twostage.specs.Selections.{all_of, one_of, parts_by, section_count, stages_of}
-use Rattle.smp_twostage.specs.Kept.Sides.{states_of}
-use Rattle.smp_twostage.specs.Kept.Sides.{section_count_by}
-use Rattle.smp_twostage.proofs.Alone.{starts_alone}
-use Rattle.smp_twostage.proofs.CoveredSo.{each_made, firsts_so, seats_so, stages_in, start_so, starts_at}
+use Rattle.smp_twostage.proofs.{Alone.{starts_alone}, CoveredSo.{each_made, firsts_so, seats_so, stages_in, start_so, starts_at}}
 use Rattle.smp_twostage.proofs.Starts.{each_first}
 use Rattle.smp_twostage.proofs.whole.Whole.only.Goals as goal
 

@@ -1,9 +1,6 @@
 use Rattle.std.proofs.Common.{◌≡◌, false, sym, ap, ◌∙◌}
-use Rattle.smp_design.specs.declared.procedure.Procedure.{Procedure}
-use Rattle.smp_design.specs.Words.{draws_together}
-use Rattle.smp_twostage.specs.Kept.Stages.{EachStarts}
-use Rattle.smp_twostage.specs.Selections.{all_of, stages_of}
-use Rattle.smp_twostage.specs.Kept.Sides.{states_of}
+use Rattle.smp_design.specs.{declared.procedure.Procedure.{Procedure}, Words.{draws_together}}
+use Rattle.smp_twostage.specs.{Kept.Stages.{EachStarts}, Selections.{all_of, stages_of}, Kept.Sides.{states_of}}
 use Rattle.smp_twostage.proofs.CoveredSo.{each_made, firsts_so, seats_so, stages_in, start_so, starts_at}
 use Rattle.smp_twostage.proofs.Starts.{each_first, starts_whole}
 use Rattle.smp_twostage.proofs.whole.Whole.start.Goals as goal

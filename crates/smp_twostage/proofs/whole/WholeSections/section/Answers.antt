@@ -1,10 +1,7 @@
-use Rattle.std.proofs.Common.{◌≡◌, ◌+◌, ◌<◌, suc, leb, arith, rules, ap, ◌∙◌}
-use Rattle.std.proofs.lemmas.List.Sorted.{IsPartitionPoint-from_clause}
+use Rattle.std.proofs.{Common.{◌≡◌, ◌+◌, ◌<◌, suc, leb, arith, rules, ap, ◌∙◌}, lemmas.List.Sorted.{IsPartitionPoint-from_clause}}
 use Rattle.smp_split.proofs.StageSections.{section}
-use Rattle.smp_twostage.specs.Kept.Stages.{first_numbers}
-use Rattle.smp_twostage.specs.Selections.{section_count, stages_before}
-use Rattle.smp_twostage.proofs.Found.{parted, section_at, some, stratum_is}
-use Rattle.smp_twostage.proofs.Inside.{first_at, length_firsts}
+use Rattle.smp_twostage.specs.{Kept.Stages.{first_numbers}, Selections.{section_count, stages_before}}
+use Rattle.smp_twostage.proofs.{Found.{parted, section_at, some, stratum_is}, Inside.{first_at, length_firsts}}
 use Rattle.smp_twostage.proofs.whole.WholeSections.section.Goals as goal
 
 pub overflow_sub-result : goal.overflow_sub-result

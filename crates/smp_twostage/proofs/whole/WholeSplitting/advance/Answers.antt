@@ -1,7 +1,6 @@
 use Rattle.std.proofs.Common.{◌≡◌, ◌<◌, sym, subst}
 use Rattle.smp_methods.specs.declared.any.AnyState.{AnyState}
-use Rattle.smp_split.specs.Stages.{Progress}
-use Rattle.smp_split.specs.Trees.{Tree, weight_sum, picked}
+use Rattle.smp_split.specs.{Stages.{Progress}, Trees.{Tree, weight_sum, picked}}
 use Rattle.smp_twostage.proofs.Inside.{member, tree_is}
 use Rattle.smp_twostage.proofs.whole.WholeSplitting.advance.Goals as goal
 

@@ -1,7 +1,6 @@
 use Rattle.std.proofs.Common.{◌≡◌, subst}
 use Rattle.smp_methods.specs.declared.any.AnyState.{AnyState}
-use Rattle.smp_split.specs.Stages.{Progress}
-use Rattle.smp_split.specs.Trees.{Tree}
+use Rattle.smp_split.specs.{Stages.{Progress}, Trees.{Tree}}
 use Rattle.smp_twostage.proofs.Inside.{member, tree_is}
 use Rattle.smp_twostage.proofs.whole.WholeSplitting.selected.Goals as goal
 

@@ -1,8 +1,7 @@
 use Rattle.smp_frac.proofs.Arithmetic.{same_refl}
 use Rattle.std.proofs.Common.{◌^◌, refl, length}
 use Rattle.smp_prob.specs.Shares.{shares_of}
-use Rattle.smp_values.specs.InOrder.{places_tree}
-use Rattle.smp_values.specs.Values.{value_at}
+use Rattle.smp_values.specs.{InOrder.{places_tree}, Values.{value_at}}
 use Rattle.smp_values.proofs.Requests.{shares_in_range, few_shares, requested_in_order, wider}
 use Rattle.smp_values.proofs.ordered.OrderedDesign.new.Goals as goal
 

@@ -1,10 +1,8 @@
 use Rattle.std.proofs.Common.{◌≡◌, ◌<◌, ◌∙◌, sym, ap, true, false, nat_eq, length, arith}
-use Rattle.smp_split.specs.Orders.{Ordered, in_order}
-use Rattle.smp_split.specs.Trees.{weight_sum}
+use Rattle.smp_split.specs.{Orders.{Ordered, in_order}, Trees.{weight_sum}}
 use Rattle.smp_split.proofs.Orders.{inner_bound, inner_picked, order_made, order_within, told_within}
 use Rattle.smp_prob.specs.Shares.{Shares}
-use Rattle.smp_values.specs.InOrder.{IsPlacedBy, places_tree, placed_tree}
-use Rattle.smp_values.specs.Values.{exchanged_values}
+use Rattle.smp_values.specs.{InOrder.{IsPlacedBy, places_tree, placed_tree}, Values.{exchanged_values}}
 use Rattle.smp_values.proofs.ordered.OrderedStateSelectionState.advance.Goals as goal
 
 pub advance-requires-clause-within : goal.advance-requires-clause-within

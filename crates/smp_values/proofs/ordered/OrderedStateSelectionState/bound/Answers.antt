@@ -2,8 +2,7 @@ use Rattle.std.proofs.Common.{◌≡◌, ◌∙◌, sym, true, false, nat_eq, le
 use Rattle.smp_split.specs.Orders.{Ordered, in_order}
 use Rattle.smp_split.proofs.Orders.{inner_bound, order_bound}
 use Rattle.smp_prob.specs.Shares.{Shares}
-use Rattle.smp_values.specs.InOrder.{places_tree}
-use Rattle.smp_values.specs.Values.{exchanged_values}
+use Rattle.smp_values.specs.{InOrder.{places_tree}, Values.{exchanged_values}}
 use Rattle.smp_values.proofs.ordered.OrderedStateSelectionState.bound.Goals as goal
 
 pub returns-then-is_drawn : goal.returns-then-is_drawn

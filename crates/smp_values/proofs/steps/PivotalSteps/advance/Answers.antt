@@ -1,11 +1,8 @@
 use Rattle.std.proofs.Common.{◌≡◌, ◌<◌, false, List, ap, subst, sym, ◌∙◌}
 use Rattle.smp_prob.specs.Shares.{Shares}
 use Rattle.smp_split.specs.Trees.{Part, weight_sum, picked}
-use Rattle.smp_values.specs.Kept.Places.{IsGoing}
-use Rattle.smp_values.specs.Steps.{pivotal_parts}
-use Rattle.smp_values.specs.Values.{is_settled}
-use Rattle.smp_values.proofs.Searches.{going_on, only_after, parts_found}
-use Rattle.smp_values.proofs.Pivotal.{step_within}
+use Rattle.smp_values.specs.{Kept.Places.{IsGoing}, Steps.{pivotal_parts}, Values.{is_settled}}
+use Rattle.smp_values.proofs.{Searches.{going_on, only_after, parts_found}, Pivotal.{step_within}}
 use Rattle.smp_values.proofs.steps.PivotalSteps.advance.Goals as goal
 
 pub step-requires-clause-going : goal.step-requires-clause-going

@@ -1,7 +1,6 @@
 use Rattle.std.proofs.Common.{◌≡◌, false, ap, sym, ◌∙◌}
 use Rattle.smp_split.specs.Trees.{weight_sum}
-use Rattle.smp_values.specs.Kept.Places.{IsGoing}
-use Rattle.smp_values.specs.Values.{is_settled}
+use Rattle.smp_values.specs.{Kept.Places.{IsGoing}, Values.{is_settled}}
 use Rattle.smp_values.proofs.Searches.{going_on, parts_found}
 use Rattle.smp_values.proofs.steps.PivotalSteps.bound.Goals as goal
 

@@ -1,5 +1,4 @@
-use Rattle.std.proofs.Common.{◌<◌, ◌≤◌, length, arith, refl}
-use Rattle.std.proofs.lemmas.Bool.{lt-ltb, le-ltb}
+use Rattle.std.proofs.{Common.{◌<◌, ◌≤◌, length, arith, refl}, lemmas.Bool.{lt-ltb, le-ltb}}
 use Rattle.smp_values.proofs.Searches.{kind_is}
 use Rattle.smp_values.proofs.steps.PivotalSteps.kind.Goals as goal
 

@@ -1,5 +1,4 @@
-use Rattle.std.proofs.Common.{◌≡◌, ◌≢◌, ◌≤◌, cond, arith, sym, ◌∙◌}
-use Rattle.std.proofs.lemmas.Bool.{eq-eqb, ne_eqb}
+use Rattle.std.proofs.{Common.{◌≡◌, ◌≢◌, ◌≤◌, cond, arith, sym, ◌∙◌}, lemmas.Bool.{eq-eqb, ne_eqb}}
 use Rattle.smp_split.proofs.NumberSums.{sums-none, sum_by-list, weight_false}
 use Rattle.smp_values.specs.Values.{fractional, fractional_count}
 use Rattle.smp_values.proofs.Units.{some_fractional}

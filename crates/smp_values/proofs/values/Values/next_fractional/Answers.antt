@@ -1,5 +1,4 @@
-use Rattle.std.proofs.Common.{◌≡◌, ◌<◌, ◌≤◌, length, sym, ap, ◌∙◌, arith, inl, inr}
-use Rattle.std.proofs.lemmas.Bool.{cases_lt}
+use Rattle.std.proofs.{Common.{◌≡◌, ◌<◌, ◌≤◌, length, sym, ap, ◌∙◌, arith, inl, inr}, lemmas.Bool.{cases_lt}}
 use Rattle.smp_prob.specs.Shares.{Shares}
 use Rattle.smp_values.proofs.Searches.{from_is}
 use Rattle.smp_values.proofs.values.Values.next_fractional.Goals as goal
