@@ -67,6 +67,22 @@ pub(crate) fn values_in(
 ) -> Result<Numbers, FrameFault>
     ensures { Reads is_memory result (Fields.values_in number (fields_of row.now) columns.now) }
 {
+    match columns {
+        // Most rows of most frames have none: so nothing is called for them.
+        [] => Ok(Numbers::from_vec(Vec::new(alloc))),
+        _ => values_of(alloc, number, row, columns),
+    }
+}
+
+// The same, of columns that there are.
+fn values_of(
+    alloc: Global,
+    number: u64,
+    row: &ByteRecord,
+    columns: &[Column],
+) -> Result<Numbers, FrameFault>
+    ensures { Reads is_memory result (Fields.values_in number (fields_of row.now) columns.now) }
+{
     let mut values = Vec::with_capacity(alloc, columns.len())?;
     for column in columns {
         values.push(value_of(alloc, number, &column.name, field(row, column.place))?)?;

@@ -1,5 +1,6 @@
 ghost use Rattle.std.specs.Prelude.{◌≡◌, length, IfOk};
-ghost use Rattle.smp_frame.specs.{Frames.{frame_of, units_of}, Bounds.{HaveBalance, HavePoints, IsFrame}, Kept.Readers.{IsReading, rows_left}};
+ghost use Rattle.smp_frame.specs.{Frames.{frame_of, units_of}, Bounds.{HaveBalance, HavePoints, IsFrame}};
+ghost use Rattle.smp_frame.specs.Kept.Readers.{IsReading, rows_left};
 ghost use Rattle.smp_frac.specs.Memory.{Reads};
 ghost use Rattle.smp_frame.specs.Faults.{is_memory};
 

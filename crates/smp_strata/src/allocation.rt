@@ -37,7 +37,7 @@ fn shares(alloc: Global, n: u32, counts: &[u32]) -> Result<Vec<u32>, NoMemory>
     let keys = keys(alloc, n, all, counts)?;
     let left = left_over(n, all, counts);
     let border = border(alloc, &keys, left)?;
-    let mut sizes = Vec::new(alloc);
+    let mut sizes = Vec::with_capacity(alloc, counts.len())?;
     for place in 0..counts.len() {
         let more = key(n, all, counts[place], place) >= border;
         sizes.push(share(n, all, counts[place], more))?;
@@ -108,7 +108,7 @@ fn keys(alloc: Global, n: u32, all: u32, counts: &[u32]) -> Result<Vec<u64>, NoM
     requires small { all ≤ most_rows }
     ensures value { IfOk result (λ list. list.items ≡ Keys.keys n all counts.now) }
 {
-    let mut list = Vec::new(alloc);
+    let mut list = Vec::with_capacity(alloc, counts.len())?;
     for place in 0..counts.len() {
         list.push(key(n, all, counts[place], place))?;
     }

@@ -117,7 +117,7 @@ pub(crate) fn groups_of(alloc: Global, numbers: &[usize], count: usize) -> Resul
     ensures { IfOk result (λ g. AreGroups numbers.now count g.groups.items g.among.items) }
 {
     let mut groups = empty_groups(alloc, count)?;
-    let mut among = Vec::new(alloc);
+    let mut among = Vec::with_capacity(alloc, numbers.len())?;
     for (place, &number) in numbers.iter().enumerate() {
         among.push(add(&mut groups, number, place)?)?;
     }

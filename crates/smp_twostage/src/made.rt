@@ -7,7 +7,8 @@ ghost use Rattle.smp_design.specs.Words.{draws_together};
 ghost use Rattle.smp_methods.specs.{Designs.{design_of, design_of_strata, first_state}, Procedures.{NeedsWhole, TakesValues}};
 ghost use Rattle.smp_methods.specs.Starts.{AreStarted};
 ghost use Rattle.smp_strata.specs.Bounds.{IsFirst, IsOver};
-ghost use Rattle.smp_twostage.specs.{Kept.Stages.{EachFirst, EachStarts, IsPlanned, StageStarts, free_lists, list_of}, Plans.{CanBeDrawn, TakesRows}};
+ghost use Rattle.smp_twostage.specs.Kept.Stages.{EachFirst, EachStarts, IsPlanned, StageStarts, free_lists, list_of};
+ghost use Rattle.smp_twostage.specs.Plans.{CanBeDrawn, TakesRows};
 ghost use Rattle.smp_twostage.specs.Selections as Selections;
 ghost use Rattle.smp_twostage.specs.Selections.{first_number, first_stage, layers_of, parts_by, stage_of_strata};
 ghost use Rattle.smp_twostage.specs.Selections.{stage_by, stages_in, stages_of, stages_within};
@@ -326,7 +327,9 @@ impl<'a> Made<'a> {
         ensures firsts { IfOk result (λ firsts. firsts.items
             ≡ map (first_number plan.now) (range_with_len 0 (suc (length plan.now.strata)))) }
     {
-        let mut firsts = Vec::new(alloc);
+        self.stages.reserve(plan.strata())?;
+        self.states.reserve(plan.strata())?;
+        let mut firsts = Vec::with_capacity(alloc, plan.strata() + 1)?;
         for number in 0..plan.strata() {
             firsts.push(self.stages.len())?;
             self.push_stratum(alloc, plan, plan.stratum(number))?;
