@@ -7,7 +7,7 @@ use Rattle.smp_frac.specs.{Faults.{◌>>=◌, guard}, Memory.{Reads}, declared.f
 use Rattle.smp_frame.specs.{Records.{field, records_of}, Layouts.{column_in, asked_in, columns_in, layout_of}, Faults.{is_memory}}
 use Rattle.smp_frame.specs.Fields.{size_of, size_in, sides_of, prob_of, prob_in, is_minus, without_minus, field_value, values_in}
 use Rattle.smp_frame.specs.{Frames.{unit_of, units_from, units_of, frame_of}, declared.columns.Columns.{Columns}}
-use Rattle.smp_frame.specs.{Bounds.{AreNear, HaveBalance, HavePoints, IsFrame, IsProbability}, declared.layout.Column.{Column}}
+use Rattle.smp_frame.specs.{Bounds.{AreSmall, HaveBalance, HavePoints, IsFrame, IsProbability}, declared.layout.Column.{Column}}
 use Rattle.smp_frame.specs.{declared.layout.Layout.{Layout}, declared.fault.FrameFault.{FrameFault}}
 use Rattle.smp_frame.specs.declared.frame.Unit as unit
 use Rattle.smp_frame.specs.declared.fault.FrameFault.TheVariants.{RowLength, NotText, RepeatedId}
@@ -79,12 +79,12 @@ value_is_near number name text value h =
     let size = goes_on _ (size_of number name (without_minus text)) value h in
     subst (λ (z : ℤ). nat_abs z < number_limit) (ok_is _ _ size.gives) (either_sign (is_minus text) size.value (size_is_small number name (without_minus text) size.value size.is))
 
-values_are_near : (number : ℕ) (row : List (List ℕ)) (columns : List Column) (values : List ℤ) → values_in number row columns ≡ Ok values → AreNear values
-values_are_near number row [] values h = subst AreNear (ok_is _ _ h) (λ k d within. absurd (omega arith))
+values_are_near : (number : ℕ) (row : List (List ℕ)) (columns : List Column) (values : List ℤ) → values_in number row columns ≡ Ok values → AreSmall values
+values_are_near number row [] values h = subst AreSmall (ok_is _ _ h) (λ k d within. absurd (omega arith))
 values_are_near number row (column ∷ columns) values h =
     let first = goes_on _ (field_value number column.name (field row column.place)) values h in
     let more = goes_on _ (values_in number row columns) values first.gives in
-    subst AreNear (ok_is _ _ more.gives) (All-cons (λ (z : ℤ). nat_abs z < number_limit) first.value more.value (value_is_near number column.name (field row column.place) first.value first.is) (values_are_near number row columns more.value more.is))
+    subst AreSmall (ok_is _ _ more.gives) (All-cons (λ (z : ℤ). nat_abs z < number_limit) first.value more.value (value_is_near number column.name (field row column.place) first.value first.is) (values_are_near number row columns more.value more.is))
 
 one_more : (m n : ℕ) → m ≡ n → suc m ≡ suc n
 one_more m n h = ap suc h
@@ -131,8 +131,8 @@ record IsSmall (layout : Layout) (u : unit.Unit) : Type 0 where
   size : u.size < number_limit
   second : u.second_size < number_limit
   prob : IsProbability u.prob
-  balance : AreNear u.balance
-  point : AreNear u.point
+  balance : AreSmall u.balance
+  point : AreSmall u.point
   balance_counted : length u.balance ≡ length layout.balance
   point_counted : length u.point ≡ length layout.near
 

@@ -13,8 +13,8 @@ abbrev pub AreProbabilities : List Frac → Type 0
 AreProbabilities probs = All IsProbability probs
 
 -- values within 2,147,483,647 of 0
-abbrev pub AreNear : List ℤ → Type 0
-AreNear values = All (λ value. nat_abs value < number_limit) values
+abbrev pub AreSmall : List ℤ → Type 0
+AreSmall values = All (λ value. nat_abs value < number_limit) values
 
 -- 1 to 200,000 units, with sizes, balancing values and coordinates within 2,147,483,647 of 0, and probabilities
 pub record IsFrame (units : List unit.Unit) : Type 0 where
@@ -24,8 +24,8 @@ pub record IsFrame (units : List unit.Unit) : Type 0 where
   pub second_small : (i : ℕ) → i < length units → slice_index (map (λ u. u.second_size) units) i
       < number_limit
   pub probabilities : AreProbabilities (map (λ u. u.prob) units)
-  pub balance : All (λ u. AreNear u.balance) units
-  pub points : All (λ u. AreNear u.point) units
+  pub balance : All (λ u. AreSmall u.balance) units
+  pub points : All (λ u. AreSmall u.point) units
 
 -- so many balancing values for each unit
 abbrev pub HaveBalance : ℕ → List unit.Unit → Type 0

@@ -5,7 +5,7 @@ use Rattle.std.proofs.{lemmas.Bool.{or_parts, or_right, leb-false}, lemmas.Int.{
 use Rattle.std.proofs.lemmas.List.Folds.{list_any_at, list_any-append}
 use Rattle.std.proofs.lemmas.List.FromFn.{get_or-map-range_with_len, length-map-range_with_len, map-range_with_len_more}
 use Rattle.smp_frac.specs.Limits.{most_rows}
-use Rattle.smp_frame.specs.Bounds.{AreNear, IsFrame, HaveBalance}
+use Rattle.smp_frame.specs.Bounds.{AreSmall, IsFrame, HaveBalance}
 use Rattle.smp_frame.specs.declared.frame.Unit as unit
 use Rattle.smp_strata.specs.Rows.{value_at, value_of, values_of, size_of, is_large}
 use Rattle.smp_strata.proofs.Ranges.{none_passes}
@@ -58,7 +58,7 @@ module _ (units : List unit.Unit) (columns : ℕ) (rows : List ℕ) where
   small_value e k here =
       leb-false (2 ^ 31) (nat_abs (value_of units rows k)) (none_passes is_above (value_of units rows) 0 columns ((or_parts _ _ e).1) k (omega arith) (omega (arith, here)))
 
-  pub small_values : is_large units columns rows ≡ false → AreNear (values_of units columns rows)
+  pub small_values : is_large units columns rows ≡ false → AreSmall (values_of units columns rows)
   small_values e k d l =
       let here : k < columns = omega (arith, l, length-map-range_with_len (value_of units rows) 0 columns) in
       rw (get_or-map-range_with_len (value_of units rows) 0 columns k k d here (omega arith)) (small_value e k here)

@@ -2,7 +2,7 @@
 use Rattle.std.proofs.Common.{◌≡◌, ℕ, ◌<◌, ℤ, false, List, [], length, map, get_or, Option, Some, None, All, refl, arith}
 use Rattle.std.specs.Prelude.{IfSome, is_some, option_map}
 use Rattle.std.proofs.{lemmas.List.{length-map}, lemmas.List.Elements.{All-get_or, All-map}}
-use Rattle.smp_frame.specs.Bounds.{AreNear, HavePoints, IsFrame}
+use Rattle.smp_frame.specs.Bounds.{AreSmall, HavePoints, IsFrame}
 use Rattle.smp_design.specs.declared.design.Design.{Design}
 use Rattle.smp_design.specs.declared.design.Second as second
 use Rattle.smp_frame.specs.declared.frame.Unit as unit
@@ -46,7 +46,7 @@ built_first design units rows frame lie are small made =
       first = record {
         some = are.some;
         balance = small_values units (length design.columns.balance) rows small;
-        point = point_holds units (first_row rows) within AreNear frame.points;
+        point = point_holds units (first_row rows) within AreSmall frame.points;
         over = over units rows design.second made;
         staged = staged units rows design.second;
       };

@@ -1,7 +1,7 @@
 -- What is true of every plan.
 use Rattle.std.specs.Prelude.{◌≡◌, ℕ, ◌<◌, ◌≤◌, List, length, is_some, Option, IfSome, IsTrue, All}
 use Rattle.smp_frac.specs.Limits.{most_rows}
-use Rattle.smp_frame.specs.Bounds.{AreNear}
+use Rattle.smp_frame.specs.Bounds.{AreSmall}
 use Rattle.smp_prob.specs.declared.requests.Request.{Request}
 use Rattle.smp_prob.specs.Requests.{IsRequest}
 use Rattle.smp_prob.specs.Inclusions.{AreApart, IsRising}
@@ -31,8 +31,8 @@ pub record DrawsWholeOver (count : ℕ) (request : Request) : Type 0 where
 -- second stage
 pub record IsFirst (method : Option Method) (f : first.FirstUnit) : Type 0 where
   pub some : 1 ≤ length f.rows
-  pub balance : AreNear f.balance
-  pub point : AreNear f.point
+  pub balance : AreSmall f.balance
+  pub point : AreSmall f.point
   pub over : IfSome f.second (DrawsWholeOver (length f.rows))
   pub staged : is_some f.second ≡ is_some method
 

@@ -3,7 +3,7 @@ use Rattle.std.proofs.Common.{◌≡◌, ℕ, ◌+◌, ◌-◌, ◌^◌, ◌<◌
 use Rattle.std.specs.List.{slice_get}
 use Rattle.std.proofs.{lemmas.List.{get_or-map, length-map}, lemmas.List.Elements.{All-get_or, All-map, All-weaker}}
 use Rattle.std.proofs.lemmas.Option.{slice_get_read, slice_get_within, get_or_from_slice_get}
-use Rattle.smp_frame.specs.Bounds.{AreNear}
+use Rattle.smp_frame.specs.Bounds.{AreSmall}
 use Rattle.smp_kernel.specs.Vectors.{Within}
 use Rattle.smp_values.specs.Starts.{DrawsWhole}
 use Rattle.smp_methods.specs.{Designs.{design_of}, Procedures.{TakesValues}}
@@ -18,7 +18,7 @@ use Rattle.smp_twostage.proofs.ToldLines.{next_mapped}
 pub stratum_at : (strata : List Stratum) (h : ℕ) (s : Stratum) → h < length strata → s ≡ get_or strata h s → slice_get strata h ≡ Some s
 stratum_at strata h s within is = slice_get_read strata (length strata) h s refl within is
 
-pub near_within : (values : List ℤ) → AreNear values → Within (2 ^ 31 - 1) values
+pub near_within : (values : List ℤ) → AreSmall values → Within (2 ^ 31 - 1) values
 near_within values near k d l = let h = near k d l in omega (arith, h)
 
 -- one more list of those that the units of a stratum have, of its free unit at a place
