@@ -8,10 +8,10 @@ use Rattle.smp_split.specs.Trees.{EachPart}
 use Rattle.smp_split.specs.declared.kind.Kind.TheVariants as kind
 use Rattle.smp_values.specs.Values.{fractional_units, is_fractional}
 use Rattle.smp_moves.specs.{Cubes.{flying, pairing, flight_parts, values_in}, Moves.{Move, Next, independent, move}}
-use Rattle.smp_moves.proofs.{Entries.{frame_order as in_frame, order_front}, Filtered.{filter_twice}, Flights.{flies_not}}
+use Rattle.smp_moves.proofs.{Entries.{frame_order as in_frame, order_front}, Filtered.{filter_twice}, Flights.{flies_not, no_choice}}
 use Rattle.smp_flight.specs.{Kept.Windows.{is_in}, Laws.Nexts.{IsKnown}, Selections.{Balancing, IsBalancing, shares_cube}}
 use Rattle.smp_flight.specs.{States.{Flight, IsFlight, Units}, Steps.{chosen, next, next_on}, Laws.ByOrder.{ends_at, knows}}
-use Rattle.smp_flight.proofs.{Free.{in_filter, out_filter}, NeverWide.{IsNextFront, KeepsFront}, Owed.{no_choice}}
+use Rattle.smp_flight.proofs.{Free.{in_filter, out_filter}, NeverWide.{IsNextFront, KeepsFront}}
 use Rattle.smp_flight.specs.{Laws.Firsts.{changed_in, in_front, within_front}, Cube.{cube_kind, cube_of}}
 
 -- a search begins with these units

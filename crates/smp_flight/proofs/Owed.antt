@@ -1,15 +1,15 @@
 -- A selection by flight and landing owes what a balanced selection owes: of each step, and of the state that it starts from.
-use Rattle.std.proofs.Common.{◌≡◌, ◌≢◌, ℕ, zero, suc, ◌*◌, ◌<◌, ◌≤◌, max, mul-pos, false, ℤ, List, [], ◌∷◌, length, get_or, arith, refl, sym, ap, ◌∙◌, subst, inl, inr}
+use Rattle.std.proofs.Common.{◌≡◌, ◌≢◌, ℕ, zero, suc, ◌*◌, ◌<◌, ◌≤◌, mul-pos, false, List, [], length, get_or, arith, refl, sym, ap, ◌∙◌, subst, inl, inr}
 use Rattle.std.proofs.lemmas.Bool.{eqb-false}
-use Rattle.smp_frac.specs.Fractions.{Fraction, Same, integer, times, over}
-use Rattle.smp_frac.proofs.{Arithmetic.{same_refl, sum_same, one-times}, Integers.{diff-same, by_diff, diffs}}
+use Rattle.smp_frac.specs.Fractions.{Fraction, Same, times}
+use Rattle.smp_frac.proofs.Arithmetic.{same_refl, sum_same, one-times}
 use Rattle.smp_kernel.specs.Vectors.{entry}
 use Rattle.smp_split.specs.{Trees.{EachPart}, declared.kind.Kind.{Kind}}
 use Rattle.smp_split.specs.declared.kind.Kind.TheVariants as kind
-use Rattle.smp_values.specs.{Steps.{kind_on}, Values.{fractional_count, fractional_units, is_fractional, is_settled, value_at}}
+use Rattle.smp_values.specs.Values.{fractional_count, fractional_units, is_fractional, is_settled, value_at}
 use Rattle.smp_moves.specs.{Moves.{independent, Next, move, wide}, Balances.{Begins}, Steps.{IsNext, IsStuck}}
 use Rattle.smp_moves.specs.Owed.{HasKept, HasStayed, IsStart, Owes, weighed_total}
-use Rattle.smp_moves.proofs.{Owed.{is_balanced}, Flights.{IsInFlight, flies_at, is_independent, is_wide, lands_at, later_at}}
+use Rattle.smp_moves.proofs.{Owed.{is_balanced}, Proportions.{weight_cancels}, Flights.{IsInFlight, flies_at, is_independent, is_wide, lands_at, later_at, no_flight, no_landing}}
 use Rattle.smp_moves.specs.Cubes.{flying, pairing, values_in, rows_in, left_in, flight_kind, flight_parts, HasIndependentColumns}
 use Rattle.smp_flight.specs.States as flights
 use Rattle.smp_flight.specs.{States.{Units, Flight, IsFlight, column, size}, Steps.{next_on}, Moves.{setting_of}}
@@ -19,23 +19,6 @@ use Rattle.smp_flight.specs.{Laws.ByOrder.{both_totals, few_fractional, values_o
 use Rattle.smp_flight.proofs.{NeverWide.{KeepsFront, never_wide}, Seen.{Flies, each_seen, each_so, each_unmoved, total_is}}
 use Rattle.smp_flight.proofs.Settled.{IsSettledAt, step_settled}
 use Rattle.smp_flight.specs.Laws.WholeOrders.{independent_in_frame_order}
-
--- ---- pivotal steps are neither of the flight nor of the landing
-
-no_flight : (order : List ℕ) → kind_on order ≢ kind.Flight
-no_flight [] e = cc
-no_flight (i ∷ []) e = cc
-no_flight (i ∷ j ∷ order) e = cc
-
-pub no_choice : (order : List ℕ) → kind_on order ≢ kind.Choose
-no_choice [] e = cc
-no_choice (i ∷ []) e = cc
-no_choice (i ∷ j ∷ order) e = cc
-
-no_landing : (order : List ℕ) → Begins (kind_on order) → ⊥
-no_landing [] e = elim e [ inl d ↦ absurd (cc) | inr w ↦ absurd (cc) ]
-no_landing (i ∷ []) e = elim e [ inl d ↦ absurd (cc) | inr w ↦ absurd (cc) ]
-no_landing (i ∷ j ∷ order) e = elim e [ inl d ↦ absurd (cc) | inr w ↦ absurd (cc) ]
 
 some_left : (s : Balancing) → is_settled (values_in s) ≡ false → 1 ≤ fractional_count (values_in s)
 some_left s going = (let ne : fractional_count (values_in s) ≢ 0 = eqb-false (fractional_count (values_in s)) 0 going in omega (arith, ne))
@@ -167,14 +150,6 @@ module _ {State : Type 0} (c : Selection State) (belongs : State → Type 0) (is
   }
 
 -- ---- at the start
-
--- a number times the weight times the probability
-weight_cancels : (x : ℤ) (n d : ℕ) → 1 ≤ n → 1 ≤ d → Same (times (times (integer x) (over (max 1 d) n)) (over n d)) (integer x)
-weight_cancels x n d pn pd =
-    let en : max 1 n ≡ n = omega arith in
-    let ed : max 1 d ≡ d = omega arith in
-    by_diff (λ x. Same (times (times (integer x) (over (max 1 d) n)) (over n d)) (integer x))
-    (λ a b. record { cross = rw (en, ed) (simp diffs (diff-same _ _ _ _ (omega arith))) }) x
 
 start_term : (units : Units) → IsFlight units (flights.tracked_start units).flight → (row k : ℕ) → k < length units.sizes → Same (times (expanded units row k) (value_at units.requested k)) (addend units row k)
 start_term units is_flight zero k l = one-times (value_at units.requested k)

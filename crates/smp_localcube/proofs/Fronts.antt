@@ -10,10 +10,10 @@ use Rattle.smp_split.specs.{Trees.{Part, EachPart}, declared.kind.Kind.{Kind}, L
 use Rattle.smp_split.specs.declared.kind.Kind.TheVariants as kind
 use Rattle.smp_values.specs.Values.{fractional_at, fractional_count, fractional_units, is_fractional}
 use Rattle.smp_moves.specs.{Cubes.{flying, pairing, flight_kind, values_in}, Moves.{IsLine, Move, Next, entry_of, independent, move, wide}}
-use Rattle.smp_moves.proofs.{Entries.{frame_order}, Flights.{flies_not}}
+use Rattle.smp_moves.proofs.{Entries.{frame_order}, Flights.{flies_not, no_choice}}
 use Rattle.smp_flight.specs.{Kept.Windows.{is_in}, Selections.{Balancing, IsBalancing}, States.{Flight, IsFlight, Units}}
 use Rattle.smp_flight.specs.{Steps.{chosen, next_on}, Laws.ByOrder.{knows}, Laws.Firsts.{changed_in, fractional_in}}
-use Rattle.smp_flight.proofs.{NeverWide.{IsNextFront, KeepsFront}, Free.{out_filter, in_filter}, Owed.{no_choice}}
+use Rattle.smp_flight.proofs.{NeverWide.{IsNextFront, KeepsFront}, Free.{out_filter, in_filter}}
 use Rattle.smp_localcube.specs.Local.{AreCarried, IsCarried, IsLocal, Local, after, head_of, is_one_of, local_of, next_from, order_around, order_from, kind_from, parts_from, parts_in_flight, untouched}
 use Rattle.smp_localcube.specs.Laws.Splits.{next_around, order_whole}
 

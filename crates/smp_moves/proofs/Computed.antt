@@ -2,11 +2,11 @@
 -- the values to the ends that are computed.
 use Rattle.std.proofs.Common.{◌≡◌, ◌≢◌, ℕ, ◌<◌, ◌≤◌, ◌&&◌, nat_le, Bool, true, false, ℤ, pos, ◌<ℤ◌, List, take, length, map, arith, refl, sym, ◌∙◌, subst, inl, inr}
 use Rattle.std.proofs.{lemmas.Bool.{and_from, and_parts, cases_Bool, le-leb, leb-true, true≢false}, lemmas.Int.{ints}}
-use Rattle.std.proofs.lemmas.List.{length-map, length-take-le, get_or-take}
+use Rattle.std.proofs.lemmas.List.{length-map, length-take-le, get_or-take, take_all}
 use Rattle.smp_frac.specs.Limits.{most_denominator, most_entry}
-use Rattle.smp_kernel.specs.{Vectors.{entry, IsZero}, RowReduction.{cut}, Searches.{Search, found, none, too_wide}}
+use Rattle.smp_kernel.specs.{Vectors.{entry, IsZero}, RowReduction.{AreIndependent, cut}, Searches.{Search, found, none, too_wide}}
 use Rattle.smp_kernel.proofs.Reduce.{primitive_part_is, length-primitive_part}
-use Rattle.smp_kernel.proofs.FoundCircuits.{circuit_length, circuit_last, cut_circuit_short}
+use Rattle.smp_kernel.proofs.{FoundCircuits.{circuit_length, circuit_last, cut_circuit_short}, SearchLaw.{none_is_few, together}}
 use Rattle.smp_prob.specs.Shares.{Shares}
 use Rattle.smp_moves.specs.{declared.lines.Ratio.{Ratio}, Cubes.{Flight}, Ends.{entries_fit, extent}, Kept.Searches.{search, search_is}}
 use Rattle.smp_moves.specs.Moves.{Line, Move, Next, Setting, chosen_extent, chosen_line, move, independent, wide, turned}
@@ -228,3 +228,16 @@ stepping_by setting IsAllowed end_at owes = record {
   is_moved = λ units f order allowed m e.
       (let moved = known_end (setting units) (end_at units) f order (owes units f order allowed) m (known (setting units) (end_at units) f order m e) in (moved true, moved false));
 }
+
+-- ---- where there is no step
+
+module _ {Values Fixed : Type 0} (setting : Setting Values) (end_at : Values → Line → Values) (f : Flight Values Fixed) (order : List ℕ) (e : next_by setting end_at order f ≡ independent) where
+  -- the columns are independent
+  pub independent_by : AreIndependent f.rows (cut f.rows (map setting.column order))
+  independent_by =
+      let cs : List (List ℤ) = cut f.rows (map setting.column order) in
+      subst (AreIndependent f.rows) (take_all (length cs) cs (omega arith)) (together f.rows cs (length cs) (finds_none setting end_at f order e) (length cs) (omega arith))
+
+  -- so they are no more than there are rows in force
+  pub few_by : length order ≤ f.rows
+  few_by = omega (arith, none_is_few f.rows (map setting.column order) (finds_none setting end_at f order e), length-map order setting.column)

@@ -13,6 +13,12 @@ use Rattle.smp_moves.specs.{Moves.{Line, IsOrder, IsLine, entry_at, entry_of, tu
 
 -- ---- fractional units, each of them once
 
+-- the first of some units
+pub front_apart : (n : ℕ) (us : List ℕ) → AllPairs (λ k l. k ≢ l) us → AllPairs (λ k l. k ≢ l) (take n us)
+front_apart n us apart i j d l m =
+    let b : (j < n) × (j < length us) = (omega (arith, m, length-take n us), omega (arith, m, length-take n us)) in
+    rw (get_or-take n us i d (omega (arith, l, b.0)), get_or-take n us j d b.0) (apart i j d l b.1)
+
 module _ (s : Shares) (order : List ℕ) (ok : IsOrder s order) where
   pub order_going : (j : ℕ) → j < length order → is_fractional s (get_or order j 0) ≡ true
   order_going j l = All-get_or (λ k. is_fractional s k ≡ true) order j 0 l ok.going
@@ -24,9 +30,7 @@ module _ (s : Shares) (order : List ℕ) (ok : IsOrder s order) where
   pub order_front : (n : ℕ) → IsOrder s (take n order)
   order_front n = record {
     going = All-take (λ k. is_fractional s k ≡ true) n order ok.going;
-    distinct = λ i j d l m.
-        let b : (j < n) × (j < length order) = (omega (arith, m, length-take n order), omega (arith, m, length-take n order)) in
-        rw (get_or-take n order i d (omega (arith, l, b.0)), get_or-take n order j d b.0) (ok.distinct i j d l b.1);
+    distinct = front_apart n order ok.distinct;
   }
 
 pub numbers_apart : (n : ℕ) → AllPairs (λ k l. k ≢ l) (range_with_len 0 n)

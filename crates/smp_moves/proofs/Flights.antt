@@ -2,8 +2,9 @@
 use Rattle.std.proofs.{Common.{◌≡◌, ◌≢◌, ℕ, ◌<◌, ◌≤◌, List, [], ◌∷◌, arith, refl, inl, inr}, lemmas.Bool.{ne_eqb}}
 use Rattle.smp_frac.specs.Fractions.{times, whole}
 use Rattle.smp_frac.proofs.Arithmetic.{plus-zero}
-use Rattle.smp_split.specs.{Parts.{moved}, Trees.{Part, EachPart, LawfulParts}}
+use Rattle.smp_split.specs.{Parts.{moved}, Trees.{Part, EachPart, LawfulParts}, declared.kind.Kind.{Kind}}
 use Rattle.smp_split.specs.declared.kind.Kind.TheVariants as kind
+use Rattle.smp_values.specs.Steps.{kind_on}
 use Rattle.smp_moves.specs.{Balances.{Begins}, Moves.{Next, move, independent, wide}}
 use Rattle.smp_moves.specs.Cubes.{Balancing, Cube, Flight, flying, pairing, flight_kind, flight_parts, kind_by, landed, left_in, parts_by, rank_in, tree_by, values_in}
 
@@ -75,3 +76,22 @@ lone_split cube o belongs s t same falls member = record {
   each = (record { heavy = omega arith; falls = falls; member = member }, tt);
   even = λ k _. rw same (plus-zero (times (whole 1) (cube.value_at (values_in s) k)));
 }
+
+-- ---- sequential pivotal steps
+
+-- they have two kinds
+not_on : (k : Kind) → kind.Pivot ≢ k → kind.Lone ≢ k → (order : List ℕ) → kind_on order ≢ k
+not_on k pivot lone [] e = lone e
+not_on k pivot lone (i ∷ []) e = lone e
+not_on k pivot lone (i ∷ j ∷ order) e = pivot e
+
+-- so none is one of the flight, begins a landing, or chooses
+pub no_flight : (order : List ℕ) → kind_on order ≢ kind.Flight
+no_flight = not_on kind.Flight (λ e. cc) (λ e. cc)
+
+pub no_choice : (order : List ℕ) → kind_on order ≢ kind.Choose
+no_choice = not_on kind.Choose (λ e. cc) (λ e. cc)
+
+pub no_landing : (order : List ℕ) → Begins (kind_on order) → ⊥
+no_landing order (inl drops) = not_on kind.Drop (λ e. cc) (λ e. cc) order drops
+no_landing order (inr wides) = not_on kind.Wide (λ e. cc) (λ e. cc) order wides

@@ -1,55 +1,27 @@
 -- The cube over all strata owes what a balanced selection owes, and its start is one.
-use Rattle.std.proofs.Common.{◌≡◌, ◌≢◌, ℕ, ◌<◌, ◌≤◌, ◌^◌, nat_eq, nat_lt, true, false, cond, ℤ, pos, List, [], ◌∷◌, filter, map, take, length, arith, refl, sym, ap, ◌∙◌, subst, inl, inr}
-use Rattle.std.proofs.{lemmas.Bool.{cases_Bool, cases_lt, eqb-false, true≢false}, lemmas.List.{length-map, get_or-map, get_or_past}}
-use Rattle.std.specs.Int.{IsGcd}
-use Rattle.std.proofs.lemmas.Nat.Gcd.{dvd_refl, dvd-zero}
-use Rattle.smp_frac.specs.Fractions.{Fraction, Same, whole, integer, times, inverse}
-use Rattle.smp_frac.proofs.Arithmetic.{same_refl, same_trans, plus_same, plus-zero, times_same, times-zero, times-one, sum_same}
-use Rattle.smp_kernel.specs.{Vectors.{entry}, Searches.{found}}
-use Rattle.smp_kernel.proofs.Ring.{zero_or}
+use Rattle.std.proofs.Common.{◌≡◌, ◌≢◌, ℕ, ◌<◌, ◌≤◌, ◌^◌, nat_eq, nat_lt, Bool, true, false, cond, pos, List, [], map, length, get_or, arith, refl, sym, ap, ◌∙◌, subst, inl, inr}
+use Rattle.std.proofs.{lemmas.Bool.{cases_Bool, cases_lt, eqb-false, false_from_ne_true, true≢false}, lemmas.List.{length-map, get_or-map, get_or_past}}
+use Rattle.std.proofs.lemmas.Nat.Gcd.{IsGcd-from_zero, IsGcd-swap}
+use Rattle.smp_frac.specs.Fractions.{Fraction, Same, whole, times}
+use Rattle.smp_frac.proofs.Arithmetic.{same_refl, same_trans, plus_same, plus-zero, times-zero, sum_same}
+use Rattle.smp_kernel.specs.{RowReduction.{cut, AreIndependent}, Vectors.{entry}}
 use Rattle.smp_split.specs.{Trees.{EachPart}, Parts.{moved}}
 use Rattle.smp_split.specs.declared.kind.Kind.TheVariants as kind
-use Rattle.smp_values.specs.{Values.{fractional}, Steps.{kind_on}}
-use Rattle.smp_moves.specs.{Moves.{Line, Move, entry_of, fraction_of, turned, Next, move, independent, wide}, Balances.{Begins}}
-use Rattle.smp_moves.specs.{Owed.{HasKept, HasStayed, IsStart, Owes}, Cubes.{flying, pairing, values_in, flight_kind}, Steps.{Finds}}
-use Rattle.smp_moves.proofs.{Evens.{entry_of_turned, times_assoc}, Entries.{off_line, place_or}, Owed.{is_balanced}, Computed.{known}}
+use Rattle.smp_values.specs.Values.{fractional}
+use Rattle.smp_moves.specs.{Moves.{Line, Move, chosen_extent, chosen_line, entry_of, fraction_of, Next, move, independent, wide}, Balances.{Begins}}
+use Rattle.smp_moves.specs.{Owed.{HasKept, HasStayed, IsStart, Owes}, Cubes.{flying, pairing, rows_in, values_in, flight_kind}}
+use Rattle.smp_moves.proofs.{Filtered.{filter_none}, Proportions.{weight_cancels}, Entries.{entry_at_none, place_or}, Owed.{is_balanced}, Computed.{independent_by, known}}
 use Rattle.smp_stratcube.specs.{declared.units.Member.{Member}, declared.values.Value.{Value}, Kept.States.{requested_value}}
-use Rattle.smp_stratcube.specs.{Units.{Units, IsUnits, column, member, nobody, share, stratum}, Moves.{setting_of}, Pairs.{step_units}}
-use Rattle.smp_stratcube.specs.Values.{AreValues, IsValue, common_of, fractional_count, fractional_units, is_fractional, is_settled, nothing, over_common, taken_over, touched_units, value, value_at}
-use Rattle.smp_stratcube.specs.{States.{Balancing, Flight, IsBalancing, IsFlying, started}, Kept.Computed.{moved_values, next, flight_of}}
-use Rattle.smp_stratcube.specs.{Kept.Pairs.{is_one_of, parts_of}, Cube.{cube_by}, Laws.Nexts.{each_step}, Balances.{addend, expanded}}
-use Rattle.smp_stratcube.specs.{Kept.Trees.{IsBalanced, flight_parts, strat_kind, strat_parts, weighed_of}, Laws.Directions.{line_ok}}
-use Rattle.smp_stratcube.specs.{Laws.Moves.{IsEnd, plus_end, minus_end}, Laws.Pairs.{IsStep, each_paired, not_among, step_at, step_is}}
-use Rattle.smp_stratcube.specs.{Laws.Splits.{strat_lawful, values_ok}, Laws.Taken.{taken_kept}, Laws.Units.{front_going}}
-use Rattle.smp_stratcube.proofs.{Landed.{drop_at, few_at, lands_at as begins_stuck}, Totals.{inverse_cancels, plus_total, minus_total}}
-use Rattle.smp_moves.specs.Kept.Computed.{direction, IsKnown}
-use Rattle.smp_moves.proofs.Flights.{IsInFlight, flies_at, lands_at, later_at}
-
-IsGcd-zero : IsGcd 0 1 1
-IsGcd-zero = (dvd-zero 1, dvd_refl 1, λ d a b. b)
-
--- a unit at which a direction isn't 0 is fractional
-on_line_open : (units : Units) (f : Flight) (ok : IsFlying units f) (w : List ℤ) (finds : Finds (setting_of units) f (fractional_units f.values) (found w)) (k : ℕ) → entry_of (direction (share units) (fractional_units f.values) w) k ≢ pos 0 → is_fractional f.values k ≡ true
-on_line_open units f ok w finds k ne =
-    let line : Line = direction (share units) (fractional_units f.values) w in
-    elim (place_or (take (length w) (fractional_units f.values)) k) [
-      | inl h ↦ subst (λ (x : ℕ). is_fractional f.values x ≡ true) h.2 (front_going f.values (length w) h.0 h.1)
-      | inr out ↦ absurd (ne (off_line (over_common (common_of units f.values (take (length w) (fractional_units f.values))) f.values) line (line_ok units f ok w finds) k out))
-    ]
-
--- ---- a settled unit keeps its value
-
-module _ (units : Units) (f : Flight) (ok : IsFlying units f) (left k : ℕ) (still : is_fractional f.values k ≡ false) where
-  abbrev KeptBy : Balancing → Type 0
-  KeptBy t = HasKept (weighed_of units) (flying f left) t k
-
-  end_kept : (line : Line) (t : Fraction) (which : Flight) → which.values ≡ moved_values units f.values line → IsEnd units f line t → (entry_of line k ≡ pos 0) → KeptBy (flying which left)
-  end_kept line t which is e none =
-      let at : Same (value_at (moved_values units f.values line) k) (value_at f.values k) =
-      same_trans (e.along k) (rw none (same_trans (plus_same (same_refl (value_at f.values k)) (times-zero t)) (plus-zero (value_at f.values k)))) in
-      let stays : is_fractional (moved_values units f.values line) k ≡ false =
-      elim (cases_Bool (is_fractional (moved_values units f.values line) k)) [ inr n ↦ n | inl h ↦ absurd (true≢false (sym (e.fewer k h) ∙ still)) ] in
-      record { still = subst (λ (vs : List Value). is_fractional vs k ≡ false) (sym is) stays; same = subst (λ (vs : List Value). Same (value_at vs k) (value_at f.values k)) (sym is) at }
+use Rattle.smp_stratcube.specs.{Units.{Units, IsUnits, column, columns_of, member, nobody, share, stratum}, Moves.{setting_of}, Pairs.{step_units}}
+use Rattle.smp_stratcube.specs.Values.{AreValues, IsValue, common_of, fractional_count, fractional_units, is_fractional, is_settled, nothing, taken_over, value, value_at}
+use Rattle.smp_stratcube.specs.{States.{Balancing, Flight, IsBalancing, IsFlying, started}, Kept.Computed.{chosen, moved_values, next, flight_of}}
+use Rattle.smp_stratcube.specs.{Kept.Pairs.{is_one_of, parts_of}, Cube.{cube_by}, Laws.Nexts.{each_step, end_is, next_is}, Balances.{addend, expanded}}
+use Rattle.smp_stratcube.specs.Kept.Trees.{IsBalanced, flight_parts, strat_kind, strat_parts, weighed_of}
+use Rattle.smp_stratcube.specs.Laws.Pairs.{IsStep, each_paired, step_at, step_is}
+use Rattle.smp_stratcube.specs.{Laws.Splits.{few_fractional, strat_lawful, values_ok}, Laws.Taken.{taken_kept}, Laws.Units.{front_going, touched_units}}
+use Rattle.smp_stratcube.proofs.Totals.{end_total}
+use Rattle.smp_moves.specs.{Kept.Computed.{IsKnown}, Steps.{IsNext, IsStuck}}
+use Rattle.smp_moves.proofs.Flights.{IsInFlight, flies_at, is_independent, is_wide, lands_at, later_at, no_flight, no_landing}
 
 -- ---- the pivotal steps
 
@@ -65,51 +37,57 @@ module _ (units : Units) (values : List Value) (left k : ℕ) (still : is_fracti
 
   pub paired_kept : (ks : List ℕ) → IsStep units values ks → EachPart (λ q. Kept q.state) (moved (λ v. pairing v left) (parts_of units values ks))
   paired_kept ks step =
-      let out : is_one_of ks k ≡ false = not_among ks k (λ t. true≢false (sym (step_at units values ks step k t).0 ∙ still)) in
+      let out : is_one_of ks k ≡ false = false_from_ne_true (is_one_of ks k) (λ t. true≢false (sym (step_at units values ks step k t).0 ∙ still)) in
       each_paired units values ks left Kept (λ t. same_kept (taken_over (is_one_of ks) values t) (taken_kept (is_one_of ks) values t k out))
-
--- no pivotal step is a flight step or begins a landing
-no_flight : (ks : List ℕ) → kind_on ks ≢ kind.Flight
-no_flight [] e = cc
-no_flight (i ∷ []) e = cc
-no_flight (i ∷ j ∷ ks) e = cc
 
 -- ---- each step, by what it is
 
 module _ (units : Units) (f : Flight) (ok : IsFlying units f) (left : ℕ) where
-  abbrev here : Balancing
-  here = flying f left
+  pub knows : (m : Move) → next units f ≡ move m → IsKnown (setting_of units) (moved_values units) f (fractional_units f.values) m
+  knows m is = known (setting_of units) (moved_values units) f (fractional_units f.values) m is
 
-  ends_kept : (m : Move) → IsKnown (setting_of units) (moved_values units) f (fractional_units f.values) m → (k : ℕ) → is_fractional f.values k ≡ false → EachPart (λ p. HasKept (weighed_of units) (flying f left) p.state k) (flight_parts units f left (move m))
-  ends_kept m known k still =
-      subst (λ (x : Move). EachPart (λ p. HasKept (weighed_of units) (flying f left) p.state k) (flight_parts units f left (move x))) (sym known.same)
-      (let line : Line = direction (share units) (fractional_units f.values) known.circuit in
-      let none : entry_of line k ≡ pos 0 = off_entry known k still in (
-        end_kept units f ok left k still line _ _ refl (plus_end units f ok left m known) none,
-        (end_kept units f ok left k still (turned line) _ _ refl (minus_end units f ok left m known) (entry_of_turned line k ∙ (rw none refl)), tt),
-      ))
-    where
-      off_entry : (known : IsKnown (setting_of units) (moved_values units) f (fractional_units f.values) m) (k : ℕ) → is_fractional f.values k ≡ false → entry_of (direction (share units) (fractional_units f.values) known.circuit) k ≡ pos 0
-      off_entry known k still =
-          elim (zero_or (entry_of (direction (share units) (fractional_units f.values) known.circuit) k)) [
-            | inl z ↦ z
-            | inr ne ↦ absurd (true≢false (sym (on_line_open units f ok known.circuit known.finds k ne) ∙ still))
-          ]
+  -- a settled unit isn't on the line of a move
+  pub end_kept : (m : Move) → next units f ≡ move m → (plus_way : Bool) (k : ℕ) → is_fractional f.values k ≡ false → HasKept (weighed_of units) (flying f left) (flying (chosen units f m plus_way) left) k
+  end_kept m is plus_way k still =
+      let e = end_is units f ok m (knows m is) plus_way in
+      let line : Line = chosen_line m plus_way in
+      let going = subst (λ (us : List ℕ). (j : ℕ) → j < length us → is_fractional f.values (get_or us j 0) ≡ true) (sym e.through) (front_going f.values (length (knows m is).circuit)) in
+      let none : entry_of line k ≡ pos 0 = elim (place_or line.units k) [
+        | inl h ↦ absurd (true≢false (sym (subst (λ (x : ℕ). is_fractional f.values x ≡ true) h.2 (going h.0 h.1)) ∙ still))
+        | inr out ↦ entry_at_none line.units line.entries k out
+      ] in
+      let at : Same (value_at (moved_values units f.values line) k) (value_at f.values k) =
+      same_trans (e.along k) (rw none (same_trans (plus_same (same_refl (value_at f.values k)) (times-zero (fraction_of (chosen_extent m plus_way)))) (plus-zero (value_at f.values k)))) in
+      record { still = false_from_ne_true (is_fractional (moved_values units f.values line) k) (λ h. true≢false (sym (e.fewer k h) ∙ still)); same = at }
 
-  pub kept_by : (a : Next) → next units f ≡ a → (k : ℕ) → is_fractional f.values k ≡ false → EachPart (λ p. HasKept (weighed_of units) (flying f left) p.state k) (flight_parts units f left a)
-  kept_by (move m) is k still = ends_kept m (known (setting_of units) (moved_values units) f (fractional_units f.values) m is) k still
+  kept_by : (a : Next) → next units f ≡ a → (k : ℕ) → is_fractional f.values k ≡ false → EachPart (λ p. HasKept (weighed_of units) (flying f left) p.state k) (flight_parts units f left a)
+  kept_by (move m) is k still = (end_kept m is true k still, (end_kept m is false k still, tt))
   kept_by independent is k still = (record { still = still; same = same_refl (value_at f.values k) }, tt)
   kept_by wide is k still = (record { still = still; same = same_refl (value_at f.values k) }, tt)
 
-  pub stays_by : (a : Next) → next units f ≡ a → (Begins (flight_kind a) → ⊥) → EachPart (λ p. HasStayed (weighed_of units) IsInFlight (flying f left) p.state) (flight_parts units f left a)
+  stays_by : (a : Next) → next units f ≡ a → (Begins (flight_kind a) → ⊥) → EachPart (λ p. HasStayed (weighed_of units) IsInFlight (flying f left) p.state) (flight_parts units f left a)
   stays_by independent is calm = absurd (calm (inl refl))
   stays_by wide is calm = absurd (calm (inr refl))
-  stays_by (move m) is calm =
-      let k = known (setting_of units) (moved_values units) f (fractional_units f.values) m is in
-      subst (λ (x : Move). EachPart (λ p. HasStayed (weighed_of units) IsInFlight (flying f left) p.state) (flight_parts units f left (move x))) (sym k.same) (
-        record { flies = tt; rows = refl; left = refl; totals = plus_total units f ok left m k },
-        (record { flies = tt; rows = refl; left = refl; totals = minus_total units f ok left m k }, tt),
-      )
+  stays_by (move m) is calm = (
+    record { flies = tt; rows = refl; left = refl; totals = end_total units f ok m (knows m is) true },
+    (record { flies = tt; rows = refl; left = refl; totals = end_total units f ok m (knows m is) false }, tt),
+  )
+
+-- ---- where the landing begins
+
+-- where a row is dropped, the columns are independent
+pub drop_at : (units : Units) (s : Balancing) → strat_kind units s ≡ kind.Drop → AreIndependent (rows_in s) (cut (rows_in s) (columns_of units (fractional_units (values_in s))))
+drop_at units (flying f left) k = independent_by (setting_of units) (moved_values units) f (fractional_units f.values) (is_independent (next units f) k)
+drop_at units (pairing values left) k = absurd (no_landing (step_units units values) (inl k))
+
+few_at : (units : Units) (s : Balancing) → strat_kind units s ≡ kind.Drop → fractional_count (values_in s) ≤ rows_in s
+few_at units (flying f left) k = few_fractional units f (is_independent (next units f) k)
+few_at units (pairing values left) k = absurd (no_landing (step_units units values) (inl k))
+
+begins_stuck : (units : Units) (s : Balancing) → IsBalancing units s → Begins (strat_kind units s) → IsStuck (cube_by each_step units) (fractional_units (values_in s)) s
+begins_stuck units (flying f left) ok (inl drops) = inl (drop_at units (flying f left) drops)
+begins_stuck units (flying f left) ok (inr wides) = inr (subst (IsNext (setting_of units) f (fractional_units f.values)) (is_wide (next units f) wides) (next_is units f ok))
+begins_stuck units (pairing values left) ok begins = absurd (no_landing (step_units units values) begins)
 
 -- ---- what is owed
 
@@ -164,14 +142,12 @@ module _ (units : Units) where
     }
       where
         nobody_ok : IsValue (requested_value nobody)
-        nobody_ok = record { positive = omega arith; most = omega arith; reduced = IsGcd-zero }
-
-    none_touched : (ks : List ℕ) → filter (λ k. (value first k).touched) ks ≡ []
-    none_touched [] = refl
-    none_touched (k ∷ ks) = (let f : (value first k).touched ≡ false = ap (λ (v : Value). v.touched) (first_at k) in rw f (none_touched ks))
+        nobody_ok = record { positive = omega arith; most = omega arith; reduced = IsGcd-swap 1 0 1 (IsGcd-from_zero 1 0 refl) }
 
     first_narrow : common_of units first [] ≤ 2 ^ 80
-    first_narrow = (let e : touched_units first ≡ [] = none_touched (fractional_units first) in rw e (omega arith))
+    first_narrow =
+        let e : touched_units first ≡ [] = filter_none (λ k. (value first k).touched) (fractional_units first) (λ i l. ap (λ (v : Value). v.touched) (first_at (get_or (fractional_units first) i 0))) in
+        rw e (omega arith)
 
     pub started_flying : IsFlying units (flight_of units (map requested_value units.members) units.rows)
     started_flying = record {
@@ -193,10 +169,7 @@ module _ (units : Units) where
             let s = are.shares k l in
             elim (cases_Bool (nat_lt row (length units.firsts))) [
               | inl t ↦ rw t (same_refl (times (whole (cond (nat_eq (stratum units k) row) 1 0)) (fraction_of (share units k))))
-              | inr n ↦ rw n
-                  (same_trans (times_assoc (integer (entry (column units k) row)) (inverse (fraction_of (share units k))) (fraction_of (share units k)))
-                  (same_trans (times_same (same_refl (integer (entry (column units k) row))) (inverse_cancels (share units k).num (share units k).den s.some (omega (arith, s.below))))
-                  (times-one (integer (entry (column units k) row)))))
+              | inr n ↦ rw n (weight_cancels (entry (column units k) row) (share units k).num (share units k).den s.some (omega (arith, s.below)))
             ]
 
     pub strat_start : IsStart (weighed_of units) (IsBalancing units) IsInFlight (started units)

@@ -13,8 +13,8 @@ use Rattle.smp_moves.specs.{Answers.{line_of}, Kept.Ends.{CanMove, IsOver}, Step
 use Rattle.smp_moves.proofs.{Entries.{order_within}, LineEnds.{divides_each, divides_first, full_positive, reached}}
 use Rattle.smp_moves.proofs.{LowestTerms.{lowest_scaled}, Places.{advanced_at, length_advanced}, Sizes.{can_advance, small_places}}
 use Rattle.smp_stratcube.specs.{declared.fronts.Front.{Front}, declared.values.Value.{Value}, Units.{Units, IsUnits, first, stratum}}
-use Rattle.smp_stratcube.specs.Values.{AreValues, common_of, denominators, is_fractional, over_common, taken_over, touched_units, value}
-use Rattle.smp_stratcube.specs.{Kept.Computed.{moves}, Kept.Fronts.{IsFront, front_units, units_on}, Laws.Units.{denominators_some}}
+use Rattle.smp_stratcube.specs.Values.{AreValues, common_of, is_fractional, over_common, taken_over, value}
+use Rattle.smp_stratcube.specs.{Kept.Computed.{moves}, Kept.Fronts.{IsFront, front_units, units_on}, Laws.Units.{denominators, denominators_some, touched_units}}
 use Rattle.smp_stratcube.specs.{Kept.Gates.{gated, gathered, held, with_unit}, Kept.Moves.{IsAlong, end_gathered, moved_value}}
 use Rattle.smp_stratcube.specs.Laws.Ends.{after_fractional, after_values, moving, still}
 use Rattle.smp_moves.proofs.{Multiples.{multiple_some, some_map}, Filtered.{filter_none, filter_twice}}

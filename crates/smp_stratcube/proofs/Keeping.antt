@@ -1,6 +1,7 @@
 -- A state after a step: what it is, and what is kept of it.
 use Rattle.std.proofs.Common.{◌≡◌, ℕ, ◌+◌, ◌-◌, ◌<◌, ◌≤◌, nat_lt, suc, Bool, true, false, Option, Some, None, List, [], ◌∷◌, length, get_or, arith, refl, sym, ap, ◌∙◌, subst, inl, inr, length-take, get_or-take}
-use Rattle.std.proofs.lemmas.Bool.{cases_Bool, lt-ltb, ltb-false, true≢false}
+use Rattle.std.specs.List.{AllByRecursion}
+use Rattle.std.proofs.lemmas.Bool.{cases_Bool, false_from_ne_true, lt-ltb, ltb-false, true≢false}
 use Rattle.smp_split.specs.{Trees.{EachPart, picked, weight_sum}, Laws.Parts.{picked-moved, weight_sum-moved}, Laws.Steps.{picked_is_part}}
 use Rattle.smp_moves.specs.{Owed.{HasKept}, Cubes.{flying, landed, pairing, values_in}}
 use Rattle.smp_stratcube.specs.{Kept.Trees.{flight_parts, strat_parts, weighed_of}, declared.fronts.Front.{Front}, Units.{Units, share}}
@@ -11,12 +12,11 @@ use Rattle.smp_stratcube.specs.{declared.values.Value.{Value}, States.{Balancing
 use Rattle.smp_stratcube.specs.{Values.{fractional_count, fractional_units, is_fractional, is_settled, value}, Laws.Ends.{still}}
 use Rattle.smp_stratcube.specs.{Kept.Computed.{chosen, moved_values, moves, next, flight_of}, Pairs.{first_pair, paired_parts, step_units}}
 use Rattle.smp_stratcube.specs.{Kept.Pairs.{is_one_of, units_by}, Kept.Fronts.{IsAhead, IsFront, front_units}, Moves.{setting_of}}
-use Rattle.smp_stratcube.specs.{declared.steps.Next.{Next as Answer}, Laws.Moves.{IsEnd, minus_end, plus_end}}
-use Rattle.smp_frac.specs.Fractions.{Fraction}
-use Rattle.smp_stratcube.specs.Laws.Pairs.{EachOf, each_of, each_taken, not_among, stands_at, step_is}
+use Rattle.smp_stratcube.specs.{declared.steps.Next.{Next as Answer}, Laws.Nexts.{end_is}}
+use Rattle.smp_stratcube.specs.Laws.Pairs.{each_of, each_taken, stands_at, step_is}
 use Rattle.smp_stratcube.specs.Laws.Taken.{length_taken, taken_kept}
 use Rattle.smp_stratcube.proofs.Written.{alone, some_front}
-use Rattle.smp_moves.specs.Kept.Computed.{direction, next_along, IsKnown, dropped}
+use Rattle.smp_moves.specs.Kept.Computed.{direction, IsKnown, dropped}
 use Rattle.smp_moves.proofs.Computed.{known}
 
 -- ---- the values of a state
@@ -89,28 +89,15 @@ module _ (units : Units) (f : Flight) (ok : IsFlying units f) (front : Front) (i
   same_behind l same u past =
       taken_kept (moves l) f.values _ u (still l u (off_units units f ok front is long few k.circuit k.finds l.units l.entries same u past))
 
-  -- an end of the move: it goes through the units of the direction
-  record IsOneEnd (l : Line) : Type 0 where
-    pub extent : Fraction
-    pub is_end : IsEnd units f l extent
-    pub same : l.units ≡ line.units
-
-  ends : (plus : Bool) → IsOneEnd (chosen_line (next_along (setting_of units) f.values line) plus)
-  ends true = record { extent = _; is_end = plus_end units f ok 0 m k; same = refl }
-  ends false = record { extent = _; is_end = minus_end units f ok 0 m k; same = refl }
-
-  one_end : (plus : Bool) → IsOneEnd (chosen_line m plus)
-  one_end plus = subst (λ (x : Move). IsOneEnd (chosen_line x plus)) (sym k.same) (ends plus)
-
   pub move_count : (plus : Bool) → length (chosen units f m plus).values ≡ length f.values
   move_count plus = length_taken (moves (chosen_line m plus)) f.values _
 
   pub move_ahead : (plus : Bool) → IsAhead (chosen units f m plus).values front
   move_ahead plus =
-      stays_ahead f.values (moved_values units f.values (chosen_line m plus)) front is long (move_count plus) (one_end plus).is_end.fewer (same_behind (chosen_line m plus) (one_end plus).same)
+      stays_ahead f.values (moved_values units f.values (chosen_line m plus)) front is long (move_count plus) (end_is units f ok m k plus).fewer (same_behind (chosen_line m plus) (end_is units f ok m k plus).through)
 
   pub move_flight : (plus : Bool) → IsFlying units (flight_of f.fixed (chosen units f m plus).values f.rows)
-  move_flight plus = (one_end plus).is_end.flight
+  move_flight plus = (end_is units f ok m k plus).flight
 
 -- ---- the front after a pivotal step
 
@@ -124,19 +111,19 @@ module _ (units : Units) (values : List Value) (ok : IsPairing units values) (fr
       subst (λ (u : ℕ). u < front.place) (sym (get_or-take front.number front.units j 0 b)) (front_before values front is long j b)
 
   -- the units of the step are of the front
-  before : (p : Option (ℕ × ℕ)) → first_pair units (fractional_units values) ≡ p → EachOf (λ k. k < front.place) (units_by p (fractional_units values))
+  before : (p : Option (ℕ × ℕ)) → first_pair units (fractional_units values) ≡ p → AllByRecursion (λ k. k < front.place) (units_by p (fractional_units values))
   before (Some p) e =
       let at = stands_at units (front_units front) p (pair_of_front units ok.are values ok.values.count front is long ∙ e) in
       (subst (λ (k : ℕ). k < front.place) at.first (in_front_before at.place (omega (arith, at.inside))), (subst (λ (k : ℕ). k < front.place) at.second (in_front_before (suc at.place) at.inside), tt))
   before None e =
-      subst (EachOf (λ k. k < front.place)) (sym (alone units values ok front is long going e) ∙ ap (λ p. units_by p (fractional_units values)) e)
+      subst (AllByRecursion (λ k. k < front.place)) (sym (alone units values ok front is long going e) ∙ ap (λ p. units_by p (fractional_units values)) e)
       (front_before values front is long 0 (some_front units values ok front is long going), tt)
 
   kept_behind : EachPart (λ q. IsBehindSame q.state) (paired_parts units values)
   kept_behind =
       let ks : List ℕ = step_units units values in
       let out : (k : ℕ) → front.place ≤ k → is_one_of ks k ≡ false =
-      λ k l. not_among ks k (λ t. (let b = each_of (λ k. k < front.place) ks (before (first_pair units (fractional_units values)) refl) k t in omega (arith, b, l))) in
+      λ k l. false_from_ne_true (is_one_of ks k) (λ t. (let b = each_of (λ k. k < front.place) ks (before (first_pair units (fractional_units values)) refl) k t in omega (arith, b, l))) in
       each_taken units values ks IsBehindSame (λ t. (length_taken (is_one_of ks) values t, λ k l. taken_kept (is_one_of ks) values t k (out k l)))
 
   module _ (draw : ℕ) (l : draw < weight_sum (paired_parts units values)) where

@@ -1,32 +1,24 @@
 -- The units of some strata are units that can be balanced.
-use Rattle.std.proofs.Common.{◌≡◌, ◌≢◌, ℕ, zero, suc, ◌+◌, ◌-◌, ◌*◌, ◌/◌, ◌^◌, ◌<◌, ◌≤◌, max, nat_eq, false, ℤ, pos, List, [], ◌∷◌, ◌++◌, map, set, length, get_or, arith, refl, sym, ap, ◌∙◌, subst, inl, inr, mul-pos, eq-zero-or-pos, suc-le-suc, le_of_suc-le-suc, length-append}
+use Rattle.std.proofs.Common.{◌≡◌, ◌≢◌, ℕ, zero, suc, ◌+◌, ◌-◌, ◌*◌, ◌/◌, ◌^◌, ◌<◌, ◌≤◌, ℤ, pos, List, [], ◌∷◌, ◌++◌, map, set, length, get_or, arith, sym, ap, ◌∙◌, subst, inl, inr, mul-pos, suc-le-suc, le_of_suc-le-suc, length-append}
 use Rattle.std.specs.{Int.RustNames.{unsigned_abs}, Prelude.{replicate}, List.{range_with_len}}
-use Rattle.std.proofs.{lemmas.Bool.{cases_Bool, cases_eq, cases_lt, eqb-false, ne_eqb}, lemmas.List.Elements.{All-from_get_or}}
+use Rattle.std.proofs.{lemmas.Bool.{cases_lt}, lemmas.List.Elements.{All-append, All-replicate, All-set, All-take}}
 use Rattle.std.proofs.lemmas.List.{get_or-append_right, get_or-map, get_or-replicate, get_or-set_other, get_or-set_same, get_or_append_left, get_or_past, length-map, length-replicate}
-use Rattle.std.proofs.{lemmas.List.FromFn.{get_or-map-range_with_len, length-map-range_with_len}, lemmas.Nat.Gcd.{IsGcd-swap}}
-use Rattle.std.proofs.Math.Nat.{div-le_self, dvd-mul_right, mul-div_cancel', mul-le-mul_right}
+use Rattle.std.proofs.{lemmas.List.FromFn.{get_or-map-range_with_len, length-map-range_with_len}, lemmas.Nat.Gcd.{dvd_trans}, Math.Nat.{dvd-mul_left}}
 use Prim.Native.Nat.{◌∣◌}
 use Rattle.smp_frac.specs.{Fractions.{Same, over, times, whole}, Divisors.{greatest_common_divisor}}
-use Rattle.smp_frac.proofs.Arithmetic.{cancel, same_trans}
-use Rattle.smp_frac.specs.{Laws.Coprime.{divisor_positive, dvd_of_coprime, part_positive}, Laws.Gcds.{IsGcd-greatest_common_divisor}}
+use Rattle.smp_frac.proofs.Arithmetic.{same_trans}
+use Rattle.smp_frac.specs.Laws.Gcds.{IsGcd-greatest_common_divisor}
 use Rattle.smp_kernel.specs.Vectors.{entry, Within}
-use Rattle.smp_moves.specs.{Ends.{lowest}, Moves.{fraction_of}}
-use Rattle.smp_moves.proofs.LineEnds.{lowest_is}
+use Rattle.smp_prob.proofs.Fractions.{denominator_is, denominator_narrow, denominator_positive}
+use Rattle.smp_values.proofs.Fractional.{fractional_is, is_fractional-between}
+use Rattle.smp_moves.specs.{declared.lines.Ratio.{Ratio}, Ends.{lowest}, Moves.{fraction_of}}
+use Rattle.smp_moves.proofs.{LineEnds.{lowest_is}, LowestTerms.{lowest_scaled}, Proportions.{as_product}}
 use Rattle.smp_stratcube.specs.{declared.units.Member.{Member}, Layers.{AreLayers, IsLayer, Layer, no_layer}, Kept.Layers.{first_of}}
 use Rattle.smp_stratcube.specs.Units.{IsShare, IsUnits, Units, column, column_of, first, member_of, members_from, nobody, share, stratum, units_of}
-use Rattle.smp_stratcube.specs.{Laws.Taken.{lowest_same}, Requests.{offset}}
-use Rattle.smp_stratcube.proofs.Stored.{in_front, in_rest, length-column}
+use Rattle.smp_stratcube.specs.{Laws.Taken.{lowest_divides, lowest_fractional, lowest_same}, Requests.{offset}}
+use Rattle.smp_stratcube.proofs.Stored.{in_front}
 
 -- ---- which unit stands where
-
--- the k-th unit is a unit of a stratum
-pub record IsOf (strata h0 : ℕ) (layers : List Layer) (k : ℕ) : Type 0 where
-  pub h : ℕ
-  pub place : ℕ
-  pub in_h : h < length layers
-  pub inside : place < length (get_or layers h no_layer).request.shape
-  pub at : k ≡ offset layers h + place
-  pub is : get_or (members_from strata h0 layers) k nobody ≡ member_of strata (h0 + h) (get_or layers h no_layer) place
 
 module _ (strata h0 : ℕ) (layer : Layer) where
   abbrev pub own : List Member
@@ -38,37 +30,7 @@ module _ (strata h0 : ℕ) (layer : Layer) where
   pub own_at : (k : ℕ) → k < length layer.request.shape → get_or (map (member_of strata h0 layer) (range_with_len 0 (length layer.request.shape))) k nobody ≡ member_of strata h0 layer k
   own_at k l = get_or-map-range_with_len (member_of strata h0 layer) 0 (length layer.request.shape) k k nobody l (omega arith)
 
-pub unit_of : (strata h0 : ℕ) (layers : List Layer) (k : ℕ) → k < length (members_from strata h0 layers) → IsOf strata h0 layers k
-unit_of strata h0 [] k l = absurd (omega (arith, l))
-unit_of strata h0 (layer ∷ layers) k l =
-    elim (cases_lt k (length layer.request.shape)) [
-      | inl b ↦ record {
-        h = 0;
-        place = k;
-        in_h = omega arith;
-        inside = b;
-        at = omega arith;
-        is = get_or_append_left (own strata h0 layer) (members_from strata (suc h0) layers) nobody k (omega (arith, b, length-own strata h0 layer))
-            ∙ own_at strata h0 layer k b
-            ∙ ap (λ i. member_of strata i layer k) (let e : h0 ≡ h0 + 0 = omega arith in e);
-      }
-      | inr b ↦
-          (let n : ℕ = length layer.request.shape in
-          let rest : k - n < length (members_from strata (suc h0) layers) = omega (arith, l, b, length-own strata h0 layer, length-append (own strata h0 layer) (members_from strata (suc h0) layers)) in
-          let r = unit_of strata (suc h0) layers (k - n) rest in
-          record {
-            h = suc r.h;
-            place = r.place;
-            in_h = suc-le-suc r.in_h;
-            inside = r.inside;
-            at = omega (arith, r.at, b);
-            is = get_or-append_right (own strata h0 layer) (members_from strata (suc h0) layers) n k nobody (length-own strata h0 layer) b
-                ∙ r.is
-                ∙ ap (λ i. member_of strata i (get_or layers r.h no_layer) r.place) (let e : suc h0 + r.h ≡ h0 + suc r.h = omega arith in e);
-          })
-    ]
-
--- and where each unit of a stratum stands
+-- where each unit of a stratum stands
 pub at_offset : (strata h0 : ℕ) (layers : List Layer) (h place : ℕ) → h < length layers → place < length (get_or layers h no_layer).request.shape →
     get_or (members_from strata h0 layers) (offset layers h + place) nobody ≡ member_of strata (h0 + h) (get_or layers h no_layer) place
 at_offset strata h0 [] h place l m = absurd (omega (arith, l))
@@ -84,6 +46,36 @@ at_offset strata h0 (layer ∷ layers) (suc h) place l m =
     ∙ ap (λ i. get_or (members_from strata (suc h0) layers) i nobody) left
     ∙ at_offset strata (suc h0) layers h place (le_of_suc-le-suc l) m
     ∙ ap (λ i. member_of strata i (get_or layers h no_layer) place) (let e : suc h0 + h ≡ h0 + suc h = omega arith in e)
+
+-- the k-th unit is a unit of a stratum
+pub record IsOf (strata h0 : ℕ) (layers : List Layer) (k : ℕ) : Type 0 where
+  pub h : ℕ
+  pub place : ℕ
+  pub in_h : h < length layers
+  pub inside : place < length (get_or layers h no_layer).request.shape
+  pub at : k ≡ offset layers h + place
+  pub is : get_or (members_from strata h0 layers) k nobody ≡ member_of strata (h0 + h) (get_or layers h no_layer) place
+
+pub unit_of : (strata h0 : ℕ) (layers : List Layer) (k : ℕ) → k < length (members_from strata h0 layers) → IsOf strata h0 layers k
+unit_of strata h0 [] k l = absurd (omega (arith, l))
+unit_of strata h0 (layer ∷ layers) k l =
+    let n : ℕ = length layer.request.shape in
+    elim (cases_lt k n) [
+      | inl b ↦ is_of 0 k (omega arith) b (omega arith)
+      | inr b ↦
+          (let r = unit_of strata (suc h0) layers (k - n) (omega (arith, l, b, length-own strata h0 layer, length-append (own strata h0 layer) (members_from strata (suc h0) layers))) in
+          is_of (suc r.h) r.place (suc-le-suc r.in_h) r.inside (omega (arith, r.at, b)))
+    ]
+  where
+    is_of : (h place : ℕ) → h < length (layer ∷ layers) → place < length (get_or (layer ∷ layers) h no_layer).request.shape → k ≡ offset (layer ∷ layers) h + place → IsOf strata h0 (layer ∷ layers) k
+    is_of h place in_h inside at = record {
+      h = h;
+      place = place;
+      in_h = in_h;
+      inside = inside;
+      at = at;
+      is = ap (λ i. get_or (members_from strata h0 (layer ∷ layers)) i nobody) at ∙ at_offset strata h0 (layer ∷ layers) h place in_h inside;
+    }
 
 -- the offsets rise
 offset_rises : (layers : List Layer) (g h place : ℕ) → g < h → h < length layers → place < length (get_or layers g no_layer).request.shape → offset layers g + place < offset layers h
@@ -117,89 +109,35 @@ module _ (strata h size : ℕ) (xs : List ℤ) (lh : h < strata) (few : strata +
       at_front row l ∙ get_or-set_other (replicate strata (pos 0)) h row (pos size) (pos 0) ne ∙ get_or-replicate strata row (pos 0) (pos 0) l
 
   pub small_column : size ≤ 2 ^ 31 - 1 → Within (2 ^ 31 - 1) xs → Within (2 ^ 31 - 1) (column_of strata h size xs)
-  small_column le w = All-from_get_or (λ x. unsigned_abs x ≤ 2 ^ 31 - 1) (column_of strata h size xs) (pos 0) (λ row l. small row)
-    where
-      small : (row : ℕ) → unsigned_abs (entry (column_of strata h size xs) row) ≤ 2 ^ 31 - 1
-      small row =
-          elim (cases_lt row strata) [
-            | inl l ↦ elim (cases_eq row h) [
-              | inl e ↦ rw e (rw own_row le)
-              | inr ne ↦ rw (other_row row l ne) (omega arith)
-            ]
-            | inr past ↦ elim (cases_lt row 16) [
-              | inr far ↦ (let none : entry (column_of strata h size xs) row ≡ pos 0 = get_or_past (column_of strata h size xs) row (pos 0) (omega (arith, far, length-column strata h size xs)) in rw none (omega arith))
-              | inl b ↦
-                  (let at : entry (column_of strata h size xs) row ≡ entry (xs ++ replicate 16 (pos 0)) (row - strata) = in_rest strata h size xs row (row - strata) b (omega (arith, past)) in
-                  rw at (small_rest (row - strata)))
-            ]
-          ]
-        where
-          small_rest : (i : ℕ) → unsigned_abs (entry (xs ++ replicate 16 (pos 0)) i) ≤ 2 ^ 31 - 1
-          small_rest i =
-              elim (cases_lt i (length xs)) [
-                | inl l ↦ rw (get_or_append_left xs (replicate 16 (pos 0)) (pos 0) i l) (w i (pos 0) l)
-                | inr past ↦
-                    rw (get_or-append_right xs (replicate 16 (pos 0)) (length xs) i (pos 0) refl past)
-                    (elim (cases_lt (i - length xs) 16) [
-                      | inl b ↦ rw (get_or-replicate 16 (i - length xs) (pos 0) (pos 0) b) (omega arith)
-                      | inr far ↦ (let none : entry (replicate 16 (pos 0)) (i - length xs) ≡ pos 0 = get_or_past (replicate 16 (pos 0)) (i - length xs) (pos 0) (omega (arith, far, length-replicate 16 (pos 0))) in rw none (omega arith))
-                    ])
-              ]
+  small_column le w =
+      let P : ℤ → Type 0 = λ x. unsigned_abs x ≤ 2 ^ 31 - 1 in
+      let none : unsigned_abs (pos 0) ≤ 2 ^ 31 - 1 = omega arith in
+      All-take P 16 ((front ++ xs) ++ replicate 16 (pos 0))
+      (All-append P (front ++ xs) (replicate 16 (pos 0))
+      (All-append P front xs (All-set P (replicate strata (pos 0)) h (pos size) le (All-replicate P strata (pos 0) none)) w)
+      (All-replicate P 16 (pos 0) none))
 
 -- ---- its probability
 
 pub share_is : (layer : Layer) → IsLayer layer → (k : ℕ) → k < length layer.request.shape → IsShare (first_of layer) (lowest (get_or layer.request.shape k 0 * layer.request.r) layer.request.total)
 share_is layer is k l =
-    let z : ℕ = get_or layer.request.shape k 0 in
-    let a : ℕ = z * layer.request.r in
+    let a : ℕ = get_or layer.request.shape k 0 * layer.request.r in
     let total : ℕ = layer.request.total in
-    let below = is.request.below_one k l in
-    let some_r = is.request.drawn (omega (arith, l, is.request.paired)) in
-    let some : 1 ≤ a = mul-pos (is.request.positive k l) some_r in
-    let low = lowest_is a total (omega (arith, below)) in
-    let p : ℕ = (lowest a total).num in
-    let q : ℕ = (lowest a total).den in
-    let gcd = IsGcd-greatest_common_divisor total layer.request.r in
+    let free : 1 ≤ length layer.request.free = omega (arith, l, is.request.paired) in
+    let below : a < total = is.request.below_one k l in
+    let some : 1 ≤ total = omega (arith, below) in
+    let between = fractional_is (lowest a total).den (lowest a total).num
+    (lowest_fractional a total some ∙ is_fractional-between total a (mul-pos (is.request.positive k l) (is.request.drawn free)) below) in
     let g : ℕ = greatest_common_divisor total layer.request.r in
-    let g_some : 1 ≤ g = divisor_positive total layer.request.r g some_r gcd in
-    let first : ℕ = total / g in
-    let whole_total : g * first ≡ total = mul-div_cancel' g gcd.0 in
-    let whole_r : g * (layer.request.r / g) ≡ layer.request.r = mul-div_cancel' g gcd.1 in
-    let not_empty : nat_eq (length layer.request.free) 0 ≡ false = ne_eqb (length layer.request.free) 0 (λ (e : length layer.request.free ≡ 0). absurd (omega (arith, e, l, is.request.paired))) in
+    let common = IsGcd-greatest_common_divisor total layer.request.r in
     record {
-      some = elim (eq-zero-or-pos p) [
-        | inr s ↦ s
-        | inl none ↦ absurd (let x : 1 ≤ a * q = mul-pos some low.some in let y : p * total ≡ 0 = rw none (omega arith) in omega (arith, x, y, low.same))
-      ];
-      below = elim (cases_lt p q) [
-        | inl h ↦ h
-        | inr h ↦ absurd (let x : q * total ≤ p * total = mul-le-mul_right total h in
-            let y : (a + 1) * q ≤ total * q = mul-le-mul_right q (omega (arith, below)) in
-            omega (arith, x, y, low.same, low.some))
-      ];
-      reduced = low.reduced;
-      divides = rw not_empty
-          (dvd_of_coprime q p first (IsGcd-swap p q 1 low.reduced)
-          (subst (λ m. q ∣ m) (cross a q p g first (layer.request.r / g) z g_some whole_total whole_r low.same) (dvd-mul_right q (z * (layer.request.r / g)))));
+      some = between.0;
+      below = between.1;
+      reduced = (lowest_is a total some).reduced;
+      divides = subst (λ (n : ℕ). (lowest a total).den ∣ n) (sym (denominator_is layer.request is.request free))
+          (subst (λ (q : Ratio). q.den ∣ total / g) (lowest_scaled a total g some (dvd_trans g common.1 (dvd-mul_left layer.request.r (get_or layer.request.shape k 0))) common.0)
+          (lowest_divides (a / g) (total / g)));
     }
-  where
-    -- the numerator times the common denominator is a multiple of the denominator
-    cross : (a q p g first part z : ℕ) → 1 ≤ g → g * first ≡ layer.request.total → g * part ≡ layer.request.r → z * layer.request.r * q ≡ p * layer.request.total → q * (z * part) ≡ p * first
-    cross a q p g first part z some t r h =
-        cancel (q * (z * part)) (p * first) g some
-        (let x : z * (g * part) * q ≡ p * (g * first) = rw (t, r) h in omega (arith, x))
-
-pub first_positive : (layer : Layer) → IsLayer layer → (1 ≤ first_of layer) × (first_of layer ≤ 2 ^ 49)
-first_positive layer is =
-    elim (cases_Bool (nat_eq (length layer.request.free) 0)) [
-      | inl t ↦ rw t (omega arith, omega arith)
-      | inr f ↦
-          (let some : length layer.request.free ≢ 0 = eqb-false (length layer.request.free) 0 f in
-          let below = is.request.below_one 0 (omega (arith, some, is.request.paired)) in
-          let gcd = IsGcd-greatest_common_divisor layer.request.total layer.request.r in
-          let g : ℕ = greatest_common_divisor layer.request.total layer.request.r in
-          rw f (part_positive layer.request.total g (omega (arith, below)) gcd.0, omega (arith, div-le_self layer.request.total g, is.request.narrow)))
-    ]
 
 -- ---- all of it
 
@@ -282,9 +220,6 @@ module _ (layers : List Layer) (are : AreLayers layers) (each : (h : ℕ) → h 
         (subst (λ (m : Member). Same (fraction_of m.share) (times (over (get_or layers m.stratum no_layer).request.r (get_or layers m.stratum no_layer).request.total) (whole (get_or layer.request.shape place 0)))) (sym (is_unit k l))
         (let below = is_layer.request.below_one place (of k l).inside in
         same_trans (lowest_same (get_or layer.request.shape place 0 * layer.request.r) layer.request.total (omega (arith, below))) (as_product (get_or layer.request.shape place 0) layer.request.r layer.request.total (omega (arith, below)))))
-      where
-        as_product : (z r total : ℕ) → 1 ≤ total → Same (over (z * r) total) (times (over r total) (whole z))
-        as_product z r total some = (let e : max 1 total ≡ total = omega arith in record { cross = rw e (ap pos (omega arith)) })
 
   pub units_are : IsUnits (units_of layers)
   units_are = record {
@@ -292,7 +227,8 @@ module _ (layers : List Layer) (are : AreLayers layers) (each : (h : ℕ) → h 
     few_rows = are.rows;
     strata = omega (arith, length-map layers first_of);
     firsts = λ h. elim (cases_lt h (length layers)) [
-      | inl l ↦ rw (first_at h l) (first_positive (get_or layers h no_layer) (each h l))
+      | inl l ↦ (let request = (get_or layers h no_layer).request in let is = (each h l).request in
+          rw (first_at h l) (denominator_positive request is, omega (arith, denominator_narrow request is)))
       | inr past ↦ (let one : get_or (map first_of layers) h 1 ≡ 1 = get_or_past (map first_of layers) h 1 (omega (arith, past, length-map layers first_of)) in rw one (omega arith, omega arith))
     ];
     within = λ k l. omega (arith, in_stratum k l, (of k l).in_h, length-map layers first_of);

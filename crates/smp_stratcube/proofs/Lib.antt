@@ -1,6 +1,5 @@
 pub mod Totals
 pub mod OneStep
-pub mod Landed
 pub mod Balances
 pub mod BySteps
 pub mod StratumSums

@@ -16,7 +16,7 @@ use Rattle.smp_stratcube.specs.{Units.{Units, IsUnits, column, columns_of, share
 use Rattle.smp_stratcube.specs.{Values.{common_of, fractional_units, over_common, taken_over, value}, Kept.Gates.{held}}
 use Rattle.smp_stratcube.specs.{Kept.Fronts.{IsFront, front_units, units_on}, Kept.Lines.{IsLineOf, direction_fits, HasDirection}}
 use Rattle.smp_stratcube.specs.Kept.Moves.{IsAlong, IsMoveOf, end_gathered}
-use Rattle.smp_stratcube.specs.Laws.Directions.{den_divides, den_some, line_ok, prefix_in, some_shares}
+use Rattle.smp_stratcube.specs.Laws.Nexts.{den_divides, den_some, line_ok, prefix_in, some_shares}
 use Rattle.smp_stratcube.proofs.{Directed.{held_none, held_some}, Ending.{end_held, inside, some_left, some_size}, Written.{turn_along}}
 use Rattle.smp_stratcube.proofs.Ahead.{front_before, units_none}
 use Rattle.smp_moves.specs.{Steps.{Finds, scale_of, scaled}, Kept.Computed.{direction, fits, next_along, next_of}}

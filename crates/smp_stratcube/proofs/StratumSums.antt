@@ -1,11 +1,10 @@
 -- The sum of the values of a stratum.
 use Rattle.std.proofs.Common.{◌≡◌, ◌≢◌, ℕ, zero, suc, ◌+◌, ◌*◌, ◌<◌, ◌≤◌, nat_eq, ◌&&◌, Bool, true, false, cond, List, length, arith, refl, sym, ap, ◌∙◌, subst, inl, inr}
 use Rattle.std.specs.Int.RustNames.{unsigned_abs}
-use Rattle.std.proofs.{Math.Nat.{mul-le-mul_right}, lemmas.Bool.{cases_Bool, cases_eq, cases_lt, eq-eqb, lt-ltb, ne_eqb}, lemmas.Int.{ints}}
+use Rattle.std.proofs.{Math.Nat.{mul-le-mul_right}, lemmas.Bool.{cases_eq, cases_lt, eq-eqb, false_from_ne_true, lt-ltb, ne_eqb}, lemmas.Int.{ints}}
 use Rattle.smp_frac.specs.Fractions.{Fraction, Same, positive_one, whole, over, plus, times, sum_below}
-use Rattle.smp_frac.proofs.Arithmetic.{same_refl, same_sym, same_trans, plus_same, plus_assoc, plus-zero, zero-plus, times_same, one-times, zero-times, sum_same, sum-plus}
+use Rattle.smp_frac.proofs.Arithmetic.{same_refl, same_sym, same_trans, plus_same, plus_assoc, plus_cancel, plus_left_comm, plus-zero, zero-plus, times_same, one-times, zero-times, sum_same}
 use Rattle.smp_frac.proofs.Over.{cross_from_over, over_from_cross, over_plus}
-use Rattle.smp_split.specs.{Means.{only}, Laws.Means.{only_sum}}
 use Rattle.smp_split.proofs.NumberSums.{sums, sum_by-range}
 use Rattle.smp_values.proofs.Fractional.{fractional_is, not_fractional, over_settled}
 use Rattle.smp_moves.specs.{Owed.{weighed_total}, Cubes.{values_in}}
@@ -15,47 +14,41 @@ use Rattle.smp_stratcube.specs.Laws.Units.{fractional_in}
 
 -- ---- sums
 
--- one term apart
-sum_apart : (n i : ℕ) (f : ℕ → Fraction) → i < n → Same (sum_below n f) (plus (f i) (sum_below n (λ k. cond (nat_eq k i) (whole 0) (f k))))
-sum_apart n i f l =
-    same_trans (sum_same n f (λ k. plus (times (only i k) (f k)) (cond (nat_eq k i) (whole 0) (f k))) (λ k m. split k))
-    (same_trans (sum-plus n (λ k. times (only i k) (f k)) (λ k. cond (nat_eq k i) (whole 0) (f k)))
-    (plus_same (only_sum n i f l) (same_refl (sum_below n (λ k. cond (nat_eq k i) (whole 0) (f k))))))
-  where
-    split : (k : ℕ) → Same (f k) (plus (times (only i k) (f k)) (cond (nat_eq k i) (whole 0) (f k)))
-    split k =
-        let IsSplit : Bool → Type 0 = λ b. Same (f k) (plus (times (whole (cond b 1 0)) (f k)) (cond b (whole 0) (f k))) in
-        elim (cases_Bool (nat_eq k i)) [
-          | inl t ↦ subst IsSplit (sym t) (same_trans (same_sym (one-times (f k))) (same_sym (plus-zero (times (whole 1) (f k)))))
-          | inr n ↦ subst IsSplit (sym n) (same_trans (same_sym (zero-plus (f k))) (plus_same (same_sym (zero-times (f k))) (same_refl (f k))))
-        ]
+comm : (a b : Fraction) → Same (plus a b) (plus b a)
+comm a b =
+    same_trans (plus_same (same_refl a) (same_sym (plus-zero b))) (same_trans (plus_left_comm a b (whole 0)) (plus_same (same_refl b) (plus-zero a)))
 
--- all terms but those at two places
-abbrev without : ℕ → ℕ → (ℕ → Fraction) → ℕ → Fraction
-without i j f k = cond (nat_eq k j) (whole 0) (cond (nat_eq k i) (whole 0) (f k))
-
-two_apart : (n i j : ℕ) (f : ℕ → Fraction) → i < n → j < n → i ≢ j → Same (sum_below n f) (plus (plus (f i) (f j)) (sum_below n (without i j f)))
-two_apart n i j f li lj apart =
-    let here : cond (nat_eq j i) (whole 0) (f j) ≡ f j = rw (ne_eqb j i (λ e. apart (sym e))) refl in
-    same_trans (sum_apart n i f li)
-    (same_trans (plus_same (same_refl (f i)) (sum_apart n j (λ k. cond (nat_eq k i) (whole 0) (f k)) lj))
-    (subst (λ (x : Fraction). Same (plus (f i) (plus x (sum_below n (without i j f)))) (plus (plus (f i) (f j)) (sum_below n (without i j f)))) (sym here)
-    (same_sym (plus_assoc (f i) (f j) (sum_below n (without i j f))))))
+-- two sums that differ at one place
+sum_but : (n i : ℕ) (f g : ℕ → Fraction) → i < n → ((k : ℕ) → k < n → i ≢ k → Same (f k) (g k)) → Same (plus (g i) (sum_below n f)) (plus (f i) (sum_below n g))
+sum_but zero i f g l others = absurd (omega (arith, l))
+sum_but (suc n) i f g l others =
+    elim (cases_eq n i) [
+      | inl e ↦ subst (λ (k : ℕ). Same (plus (g k) (sum_below (suc n) f)) (plus (f k) (sum_below (suc n) g))) e
+          (same_trans (plus_left_comm (g n) (sum_below n f) (f n))
+          (same_trans (plus_same (sum_same n f g (λ k m. others k (omega (arith, m)) (omega (arith, m, e)))) (comm (g n) (f n))) (plus_left_comm (sum_below n g) (f n) (g n))))
+      | inr ne ↦
+          same_trans (same_sym (plus_assoc (g i) (sum_below n f) (f n)))
+          (same_trans (plus_same (sum_but n i f g (omega (arith, l, ne)) (λ k m. others k (omega (arith, m)))) (others n (omega arith) (λ e. ne (sym e)))) (plus_assoc (f i) (sum_below n g) (g n)))
+    ]
 
 -- two sums that differ at two places, of which the terms there have the same sum
 pub sum_pair : (n i j : ℕ) (f g : ℕ → Fraction) → i < n → j < n → i ≢ j → ((k : ℕ) → k < n → i ≢ k → j ≢ k → Same (f k) (g k)) → Same (plus (f i) (f j)) (plus (g i) (g j)) → Same (sum_below n f) (sum_below n g)
 sum_pair n i j f g li lj apart others both =
-    same_trans (two_apart n i j f li lj apart) (same_trans (plus_same both (sum_same n (without i j f) (without i j g) at)) (same_sym (two_apart n i j g li lj apart)))
+    let h : ℕ → Fraction = λ k. cond (nat_eq i k) (g k) (f k) in
+    let h_i : h i ≡ g i = rw (eq-eqb i i refl) refl in
+    let h_j : h j ≡ f j = rw (ne_eqb i j apart) refl in
+    let at_i : Same (plus (g i) (sum_below n f)) (plus (f i) (sum_below n h)) =
+    subst (λ (x : Fraction). Same (plus x (sum_below n f)) (plus (f i) (sum_below n h))) h_i (sum_but n i f h li (λ k l ne. rw (ne_eqb i k ne) (same_refl (f k)))) in
+    let at_j : Same (plus (g j) (sum_below n h)) (plus (f j) (sum_below n g)) =
+    subst (λ (x : Fraction). Same (plus (g j) (sum_below n h)) (plus x (sum_below n g))) h_j (sum_but n j h g lj (λ k l ne. others_at k l ne)) in
+    plus_cancel (plus (f i) (f j)) (sum_below n f) (sum_below n g)
+    (same_trans (plus_same both (same_refl (sum_below n f)))
+    (same_trans (plus_assoc (g i) (g j) (sum_below n f)) (same_trans (plus_left_comm (g i) (g j) (sum_below n f))
+    (same_trans (plus_same (same_refl (g j)) at_i) (same_trans (plus_left_comm (g j) (f i) (sum_below n h))
+    (same_trans (plus_same (same_refl (f i)) at_j) (same_sym (plus_assoc (f i) (f j) (sum_below n g)))))))))
   where
-    at : (k : ℕ) → k < n → Same (cond (nat_eq k j) (whole 0) (cond (nat_eq k i) (whole 0) (f k))) (cond (nat_eq k j) (whole 0) (cond (nat_eq k i) (whole 0) (g k)))
-    at k l =
-        elim (cases_eq k j) [
-          | inl e ↦ rw (eq-eqb k j e) (same_refl (whole 0))
-          | inr nj ↦ elim (cases_eq k i) [
-            | inl e ↦ rw (ne_eqb k j nj, eq-eqb k i e) (same_refl (whole 0))
-            | inr ni ↦ rw (ne_eqb k j nj, ne_eqb k i ni) (others k l (λ e. ni (sym e)) (λ e. nj (sym e)))
-          ]
-        ]
+    others_at : (k : ℕ) → k < n → j ≢ k → Same (cond (nat_eq i k) (g k) (f k)) (g k)
+    others_at k l nj = elim (cases_eq i k) [ inl e ↦ rw (eq-eqb i k e) (same_refl (g k)) | inr ni ↦ rw (ne_eqb i k ni) (others k l ni nj) ]
 
 -- a sum of whole numbers
 pub whole_sum : (n : ℕ) (g : ℕ → ℕ) → Same (sum_below n (λ k. whole (g k))) (whole (sums n g))
@@ -135,7 +128,7 @@ module _ (units : Units) (h : ℕ) where
 
   -- what all units but one count for
   abbrev others : List Value → ℕ → ℕ → ℕ
-  others values i k = cond (nat_eq k i) 0 (cond (nat_eq (stratum units k) h && is_one values k) 1 0)
+  others values i k = cond (nat_eq i k) 0 (cond (nat_eq (stratum units k) h && is_one values k) 1 0)
 
   -- one unit of it that alone is fractional has no whole sum
   pub alone_never : (values : List Value) (n i : ℕ) → AreValues (length units.members) values → is_fractional values i ≡ true → stratum units i ≡ h →
@@ -144,21 +137,16 @@ module _ (units : Units) (h : ℕ) where
       let v : Value = value values i in
       let inside : i < length units.members = omega (arith, fractional_in values i open_i, are.count) in
       let between = fractional_is v.at.den v.at.num open_i in
+      let none_here : Same (plus (whole (others values i i)) (stratum_sum units h values)) (stratum_sum units h values) = rw (eq-eqb i i refl) (zero-plus (stratum_sum units h values)) in
       never_whole v.at.num v.at.den (sums (length units.members) (others values i)) n between.0 between.1
-      (same_trans (same_sym
-      (same_trans (sum_apart (length units.members) i (term values) inside)
-      (plus_same (term_in i (value_at values i) same)
-      (same_trans (sum_same (length units.members) (λ k. cond (nat_eq k i) (whole 0) (term values k)) (λ k. whole (others values i k)) (λ k l. others_are k)) (whole_sum (length units.members) (others values i))))))
-      adds)
+      (same_trans (plus_same (same_sym (term_in i (value_at values i) same)) (same_sym (whole_sum (length units.members) (others values i))))
+      (same_trans (same_sym (sum_but (length units.members) i (term values) (λ k. whole (others values i k)) inside others_are))
+      (same_trans none_here adds)))
     where
-      others_are : (k : ℕ) → Same (cond (nat_eq k i) (whole 0) (term values k)) (whole (others values i k))
-      others_are k =
-          elim (cases_eq k i) [
-            | inl e ↦ rw (eq-eqb k i e) (same_refl (whole 0))
-            | inr ne ↦
-                rw (ne_eqb k i ne)
-                (settled_term values (length units.members) k are (λ e. elim (cases_Bool (is_fractional values k)) [ inr f ↦ f | inl t ↦ absurd (ne (alone k t e)) ]))
-          ]
+      others_are : (k : ℕ) → k < length units.members → i ≢ k → Same (term values k) (whole (others values i k))
+      others_are k l ne =
+          rw (ne_eqb i k ne)
+          (settled_term values (length units.members) k are (λ e. false_from_ne_true (is_fractional values k) (λ t. ne (sym (alone k t e)))))
 
   -- where no unit is fractional, the sum counts the selected ones
   pub counted : (s : Balancing) (n : ℕ) → AreValues (length units.members) (values_in s) → ((k : ℕ) → is_fractional (values_in s) k ≡ false) → Same (stratum_sum units h (values_in s)) (whole n) → selected_in units h s ≡ n

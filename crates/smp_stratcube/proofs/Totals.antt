@@ -1,34 +1,22 @@
 -- A move keeps the total of each row in force: the size of a stratum, or the total of a variable over all strata.
-use Rattle.std.proofs.Common.{◌≡◌, ℕ, suc, ◌+◌, ◌*◌, ◌/◌, ◌<◌, ◌≤◌, max, nat_lt, cond, ℤ, pos, negsuc, neg_ℤ, ◌*ℤ◌, ◌<ℤ◌, List, [], ◌∷◌, map, take, length, get_or, arith, refl, sym, ap, ◌∙◌, subst, inl, inr}
+use Rattle.std.proofs.Common.{◌≡◌, ℕ, suc, ◌+◌, ◌*◌, ◌/◌, ◌<◌, ◌≤◌, nat_lt, cond, Bool, ℤ, pos, negsuc, neg_ℤ, ◌*ℤ◌, List, [], map, take, length, get_or, arith, sym, ap, ◌∙◌, subst, inl, inr}
 use Rattle.std.specs.Int.RustNames.{unsigned_abs}
-use Rattle.std.proofs.{lemmas.Bool.{cases_Bool, cases_eq, eq-eqb, ltb-true, ne_eqb}, lemmas.Int.{ints}, lemmas.List.{take-map}}
+use Rattle.std.proofs.{lemmas.Bool.{cases_Bool, cases_eq, eq-eqb, ltb-true, ne_eqb}, lemmas.Int.{ints}, lemmas.List.{take-map}, lemmas.Simd.{map-map}}
 use Rattle.std.proofs.Math.Nat.{mul-div_cancel'}
 use Prim.Native.Nat.{◌∣◌}
 use lib.IntN.{*ℤ_comm}
-use Rattle.smp_frac.specs.Fractions.{Fraction, Same, whole, integer, times, inverse, over, sum_below}
-use Rattle.smp_frac.proofs.Arithmetic.{same_refl, same_sym, same_trans, times_same, times_left_comm, times-zero, zero-times, one-times, times-one}
-use Rattle.smp_frac.proofs.{Integers.{diff, diff-neg, diff-same, same-diff, by_diff, diffs, pos-diff}, Signs.{neg-diff}}
+use Rattle.smp_frac.specs.Fractions.{Fraction, Same, whole, integer, times, over, sum_below}
+use Rattle.smp_frac.proofs.Arithmetic.{same_sym, same_trans, times-zero, zero-times}
+use Rattle.smp_frac.proofs.{Integers.{diff, diff-neg, same-diff, by_diff, diffs, pos-diff}, Signs.{neg-diff}}
 use Rattle.smp_kernel.specs.{Vectors.{entry, dot}, Searches.{found}}
 use Rattle.smp_kernel.proofs.FoundCircuits.{circuit_row, in_row}
-use Rattle.smp_moves.specs.{declared.lines.Ratio.{Ratio}, Moves.{Line, Move, entry_of, fraction_of, turned}, Ends.{extent}}
-use Rattle.smp_moves.proofs.{Evens.{times_assoc}, LineEnds.{lowest_is}, LineSums.{sum_line, line_dot}, Totals.{sum_stays, back_total}}
+use Rattle.smp_moves.specs.{declared.lines.Ratio.{Ratio}, Moves.{Line, Move, chosen_line, entry_of, fraction_of}}
+use Rattle.smp_moves.proofs.{LineEnds.{lowest_is}, LineSums.{sum_line, line_dot}, Totals.{ends_stay}}
 use Rattle.smp_stratcube.specs.{Units.{Units, column, columns_of, share, stratum}, States.{Flight, IsFlying}, Kept.Computed.{moved_values}}
-use Rattle.smp_stratcube.specs.{Values.{fractional_units, over_common, value_at, common_of}, Moves.{setting_of}, Balances.{expanded}}
-use Rattle.smp_stratcube.specs.{Laws.Directions.{is_direction, line_ok, prefix_in, some_shares}, Laws.Moves.{plus_end, minus_end}}
+use Rattle.smp_stratcube.specs.{Values.{fractional_units, value_at}, Moves.{setting_of}, Balances.{expanded}}
+use Rattle.smp_stratcube.specs.Laws.Nexts.{end_is, is_direction, line_ok, prefix_in, some_shares}
 use Rattle.smp_moves.specs.{Steps.{Finds, IsDirection, product, scale_of, signed}, Kept.Computed.{direction, IsKnown}}
-use Rattle.smp_moves.proofs.{Computed.{front_some, prefix_length}, Products.{entry-scaled, scale_divides}}
-
--- ---- fractions
-
--- a fraction above 0, times its inverse
-pub inverse_cancels : (n d : ℕ) → 1 ≤ n → 1 ≤ d → Same (times (inverse (over n d)) (over n d)) (whole 1)
-inverse_cancels n d pn pd =
-    let en : max 1 n ≡ n = omega arith in
-    let ed : max 1 d ≡ d = omega arith in
-    record { cross = rw (en, ed) (ap pos (omega arith)) }
-
-integer_times : (x w : ℤ) → Same (times (integer x) (integer w)) (integer (w *ℤ x))
-integer_times x w = record { cross = ap (λ z. z *ℤ pos 1) (*ℤ_comm x w) }
+use Rattle.smp_moves.proofs.{Computed.{front_some, prefix_length}, Products.{entry-scaled, scale_divides}, Proportions.{as_positive, entry_at, stratum_row, variable_row}}
 
 -- ---- an entry of a direction is in proportion to probability times factor
 
@@ -40,13 +28,6 @@ number_is fn fd wn pn pd L d h =
     let a : pn * q * fd ≡ q * (pn * fd) = omega arith in
     let b : q * (fn * wn * pd) ≡ fn * wn * (pd * q) = omega arith in
     a ∙ ap (λ x. q * x) (sym h) ∙ b ∙ ap (λ x. fn * wn * x) whole_is
-
-entry_at : (D L fn fd e e' u v : ℕ) → 1 ≤ D → 1 ≤ fd → D * (e * fd) + L * (fn * v) ≡ D * (e' * fd) + L * (fn * u) →
-    Same (integer (diff e e')) (times (over L D) (times (over fn fd) (integer (diff u v))))
-entry_at D L fn fd e e' u v pD pf h =
-    let eD : max 1 D ≡ D = omega arith in
-    let ef : max 1 fd ≡ fd = omega arith in
-    record { cross = rw (eD, ef) (simp diffs (diff-same _ _ _ _ (omega (arith, h)))) }
 
 module _ (D L fn fd : ℕ) (pD : 1 ≤ D) (pf : 1 ≤ fd) where
   -- where the factor is a difference, and so is the product
@@ -68,25 +49,6 @@ module _ (D L fn fd : ℕ) (pD : 1 ≤ D) (pf : 1 ≤ fd) where
 
 -- ---- a row
 
--- c in proportion to the number x of a unit
-variable_row : (A f W E : Fraction) (x w : ℤ) (n d : ℕ) → 1 ≤ n → 1 ≤ d → Same E (times A (times (over n d) (integer w))) →
-    Same (times (times (integer x) (inverse (over n d))) E) (times A (integer (w *ℤ x)))
-variable_row A f W E x w n d pn pd h =
-    let c : Fraction = times (integer x) (inverse (over n d)) in
-    let fw : Fraction = times (over n d) (integer w) in
-    let cf : Same (times c (over n d)) (integer x) =
-    same_trans (times_assoc (integer x) (inverse (over n d)) (over n d)) (same_trans (times_same (same_refl (integer x)) (inverse_cancels n d pn pd)) (times-one (integer x))) in
-    let inner : Same (times c fw) (integer (w *ℤ x)) =
-    same_trans (same_sym (times_assoc c (over n d) (integer w))) (same_trans (times_same cf (same_refl (integer w))) (integer_times x w)) in
-    same_trans (times_same (same_refl c) h) (same_trans (times_left_comm c A fw) (times_same (same_refl A) inner))
-
-stratum_row : (A E scale : Fraction) (w : ℤ) (n d size : ℕ) → Same E (times A (times (over n d) (integer w))) → Same (over n d) (times scale (whole size)) →
-    Same (times (whole 1) E) (times (times A scale) (integer (w *ℤ pos size)))
-stratum_row A E scale w n d size h f =
-    let fw : Same (times (over n d) (integer w)) (times scale (integer (w *ℤ pos size))) =
-    same_trans (times_same f (same_refl (integer w))) (same_trans (times_assoc scale (whole size) (integer w)) (times_same (same_refl scale) (integer_times (pos size) w))) in
-    same_trans (one-times E) (same_trans h (same_trans (times_same (same_refl A) fw) (same_sym (times_assoc A scale (integer (w *ℤ pos size))))))
-
 other_row : (E B : Fraction) (w : ℤ) → Same (times (whole 0) E) (times B (integer (w *ℤ pos 0)))
 other_row E B w = same_trans (zero-times E) (same_sym (subst (λ (z : ℤ). Same (times B (integer z)) (whole 0)) (sym (*ℤ_comm w (pos 0) ∙ zero_first w)) (times-zero B)))
   where
@@ -97,13 +59,6 @@ other_row E B w = same_trans (zero-times E) (same_sym (subst (λ (z : ℤ). Same
 
 abbrev pub number_in : Units → ℕ → ℕ → ℤ
 number_in units row k = entry (column units k) row
-
-pub numbers_are : (units : Units) (row : ℕ) (order : List ℕ) → in_row row (columns_of units order) ≡ map (number_in units row) order
-numbers_are units row [] = refl
-numbers_are units row (k ∷ order) = ap (λ xs. number_in units row k ∷ xs) (numbers_are units row order)
-
-as_positive : (d : ℤ) → pos 0 <ℤ d → d ≡ pos (unsigned_abs d)
-as_positive d p = omega (arith, ints)
 
 module _ (units : Units) (f : Flight) (ok : IsFlying units f) (w : List ℤ) (finds : Finds (setting_of units) f (fractional_units f.values) (found w)) where
   abbrev line : Line
@@ -152,7 +107,7 @@ module _ (units : Units) (f : Flight) (ok : IsFlying units f) (w : List ℤ) (fi
       let inside : k < length units.members = prefix_in units f ok w finds j l in
       let s = ok.are.shares k inside in
       elim (cases_Bool (nat_lt row (length units.firsts))) [
-        | inr v ↦ rw v (variable_row A A A (integer (entry line.entries j)) (number_in units row k) (entry w j) (share units k).num (share units k).den s.some (omega (arith, s.below)) (entry_is j l))
+        | inr v ↦ rw v (variable_row A (integer (entry line.entries j)) (number_in units row k) (entry w j) (share units k).num (share units k).den s.some (omega (arith, s.below)) (entry_is j l))
         | inl t ↦ elim (cases_eq (stratum units k) row) [
           | inl same ↦
               (let own : number_in units row k ≡ pos (ok.are.size k) = subst (λ (r : ℕ). entry (column units k) r ≡ pos (ok.are.size k)) same (ok.are.own_row k inside) in
@@ -166,7 +121,7 @@ module _ (units : Units) (f : Flight) (ok : IsFlying units f) (w : List ℤ) (fi
 
   none_in : (row : ℕ) → row < f.rows → dot w (map (number_in units row) line.units) ≡ pos 0
   none_in row l =
-      ap (dot w) (sym (numbers_are units row prefix)) ∙ ap (λ cs. dot w (in_row row cs)) (sym (take-map (column units) (length w) (fractional_units f.values)))
+      ap (dot w) (sym (map-map (λ (c : List ℤ). entry c row) (column units) prefix)) ∙ ap (λ cs. dot w (in_row row cs)) (sym (take-map (column units) (length w) (fractional_units f.values)))
       ∙ circuit_row f.rows (columns_of units (fractional_units f.values)) w finds row l
 
   pub direction_total : (row : ℕ) → row < f.rows → Same (sum_below (length units.members) (λ k. times (expanded units row k) (integer (entry_of (direction (share units) (fractional_units f.values) w) k)))) (whole 0)
@@ -178,18 +133,9 @@ module _ (units : Units) (f : Flight) (ok : IsFlying units f) (w : List ℤ) (fi
 
 -- ---- both ends of a move
 
-module _ (units : Units) (f : Flight) (ok : IsFlying units f) (left : ℕ) (m : Move) (k : IsKnown (setting_of units) (moved_values units) f (fractional_units f.values) m) where
-  abbrev flown : Line
-  flown = direction (share units) (fractional_units f.values) k.circuit
-
-  pub plus_total : (row : ℕ) → row < f.rows → Same (sum_below (length units.members) (λ u. times (expanded units row u) (value_at (moved_values units f.values (direction (share units) (fractional_units f.values) k.circuit)) u)))
+module _ (units : Units) (f : Flight) (ok : IsFlying units f) (m : Move) (k : IsKnown (setting_of units) (moved_values units) f (fractional_units f.values) m) where
+  pub end_total : (plus_way : Bool) (row : ℕ) → row < f.rows → Same (sum_below (length units.members) (λ u. times (expanded units row u) (value_at (moved_values units f.values (chosen_line m plus_way)) u)))
       (sum_below (length units.members) (λ u. times (expanded units row u) (value_at f.values u)))
-  plus_total row l =
-      sum_stays (length units.members) (expanded units row) (value_at f.values) (value_at (moved_values units f.values flown)) (fraction_of (extent (over_common (common_of units f.values (take (length k.circuit) (fractional_units f.values))) f.values) flown)) (entry_of flown)
-      (plus_end units f ok left m k).along (direction_total units f ok k.circuit k.finds row l)
-
-  pub minus_total : (row : ℕ) → row < f.rows → Same (sum_below (length units.members) (λ u. times (expanded units row u) (value_at (moved_values units f.values (turned (direction (share units) (fractional_units f.values) k.circuit))) u)))
-      (sum_below (length units.members) (λ u. times (expanded units row u) (value_at f.values u)))
-  minus_total row l =
-      sum_stays (length units.members) (expanded units row) (value_at f.values) (value_at (moved_values units f.values (turned flown))) (fraction_of (extent (over_common (common_of units f.values (take (length k.circuit) (fractional_units f.values))) f.values) (turned flown))) (entry_of (turned flown))
-      (minus_end units f ok left m k).along (back_total (length units.members) (expanded units row) flown (direction_total units f ok k.circuit k.finds row l))
+  end_total plus_way row l =
+      ends_stay (length units.members) (expanded units row) (value_at f.values) (λ p. value_at (moved_values units f.values (chosen_line m p))) m (λ p. (end_is units f ok m k p).along)
+      (subst (λ (x : Move). Same (sum_below (length units.members) (λ u. times (expanded units row u) (integer (entry_of x.direction u)))) (whole 0)) (sym k.same) (direction_total units f ok k.circuit k.finds row l)) plus_way

@@ -1,22 +1,21 @@
 -- Where the probabilities of a stratum add up to a whole number, each leaf selects that many of its units, after pivotal steps too.
-use Rattle.std.proofs.Common.{◌≡◌, ◌≢◌, ℕ, suc, ◌<◌, true, false, Option, Some, None, List, [], ◌∷◌, take, length, get_or, arith, refl, sym, ap, ◌∙◌, subst, inl, inr, ◌⊎◌}
-use Rattle.std.proofs.lemmas.Bool.{cases_Bool, cases_eq, ne_eqb, true≢false}
+use Rattle.std.proofs.Common.{◌≡◌, ◌≢◌, ℕ, suc, ◌<◌, Bool, true, false, Option, Some, None, List, [], ◌∷◌, take, length, get_or, arith, refl, sym, ap, ◌∙◌, subst, inl, inr, ◌⊎◌}
+use Rattle.std.proofs.lemmas.Bool.{cases_eq, false_from_ne_true, ne_eqb, true≢false}
 use Rattle.smp_frac.specs.Fractions.{Same, plus, whole}
 use Rattle.smp_prob.specs.Shares.{Shares}
 use Rattle.smp_frac.proofs.Arithmetic.{same_refl, same_trans}
 use Rattle.smp_split.specs.{Trees.{EachPart}, Parts.{moved}}
 use Rattle.smp_split.proofs.Paths.{at_each_leaf_kept}
-use Rattle.smp_moves.specs.{Balances.{Begins}, Moves.{Move, Next, fraction_of, independent, move, wide}, Owed.{HasKept, HasStayed}}
+use Rattle.smp_moves.specs.{Moves.{Move, Next, fraction_of, independent, move, wide}, Owed.{HasKept, weighed_total}}
 use Rattle.smp_moves.specs.{Cubes.{flying, pairing, values_in, flight_kind}, Kept.Computed.{dropped}}
 use Rattle.smp_stratcube.specs.{declared.values.Value.{Value}, Units.{IsUnits, Units, stratum}, Kept.Computed.{chosen, next}}
 use Rattle.smp_stratcube.specs.{Values.{fractional_units, is_fractional, taken_over, value, value_at}, Pairs.{first_pair}}
 use Rattle.smp_stratcube.specs.{States.{Balancing, Flight, IsBalancing, IsFlying, IsPairing, started}, Laws.Meetings.{meeting_sums}}
 use Rattle.smp_stratcube.specs.{Kept.Pairs.{is_one_of, parts_of, units_by}, Laws.Splits.{none_open, strat_lawful, values_ok}}
 use Rattle.smp_stratcube.specs.{Kept.Trees.{HasCounts, flight_parts, strat_parts, strat_tree, weighed_of}, Laws.Taken.{taken_kept}}
-use Rattle.smp_stratcube.specs.Laws.Pairs.{IsMeeting, IsStep, each_paired, not_among, pair_found, step_at}
+use Rattle.smp_stratcube.specs.Laws.Pairs.{IsMeeting, IsStep, each_paired, pair_found, step_at}
 use Rattle.smp_stratcube.specs.Laws.Units.{fractional_in, order_going}
-use Rattle.smp_stratcube.proofs.{Alone.{alone_in}, Balances.{kept_by, started_flying, stays_by, strat_start}, Landed.{drop_at}}
-use Rattle.smp_moves.proofs.Flights.{IsInFlight}
+use Rattle.smp_stratcube.proofs.{Alone.{alone_in}, Balances.{drop_at, end_kept, knows, started_flying, strat_start}, Totals.{end_total}}
 use Rattle.smp_stratcube.proofs.FirstPairs.{alone}
 use Rattle.smp_stratcube.proofs.StratumSums.{NoneOpen, alone_never, counted, kept_sum, paired_sum, stratum_sum, total_is}
 
@@ -29,27 +28,23 @@ whole_of : (units : Units) (h n : ℕ) (s : Balancing) → IsWholeIn units h n s
 whole_of units h n (flying f left) keeps = keeps.0
 whole_of units h n (pairing values left) keeps = keeps
 
-not_open : (units : Units) (h : ℕ) (values : List Value) → NoneOpen units h values → (k : ℕ) → stratum units k ≡ h → is_fractional values k ≡ false
-not_open units h values none k e = elim (cases_Bool (is_fractional values k)) [ inr f ↦ f | inl t ↦ absurd (none k t e) ]
-
-no_begin : (m : Move) → Begins (flight_kind (move m)) → ⊥
-no_begin m begins = elim begins [ inl e ↦ (cc) | inr e ↦ (cc) ]
-
 module _ (units : Units) (h n : ℕ) (inside : h < length units.firsts) where
   -- ---- the flight
 
   module _ (f : Flight) (ok : IsFlying units f) (left : ℕ) (keeps : IsWholeIn units h n (flying f left)) where
-    end_keeps : (to : Flight) → HasStayed (weighed_of units) IsInFlight (flying f left) (flying to left) →
-        ((k : ℕ) → is_fractional f.values k ≡ false → HasKept (weighed_of units) (flying f left) (flying to left) k) → IsWholeIn units h n (flying to left)
-    end_keeps to stayed kept =
+    end_keeps : (m : Move) → next units f ≡ move m → (plus_way : Bool) → IsWholeIn units h n (flying (chosen units f m plus_way) left)
+    end_keeps m is plus_way =
+        let to : Balancing = flying (chosen units f m plus_way) left in
         elim keeps.1 [
           | inl row ↦
-              (let same : Same (stratum_sum units h to.values) (stratum_sum units h f.values) = rw (total_is units h (flying to left) inside, total_is units h (flying f left) inside) at (stayed.totals h row) in
-              (same_trans same keeps.0, inl (omega (arith, row, stayed.rows))))
-          | inr none ↦ (
-            same_trans (kept_sum units h f.values to.values (λ k l e. (kept k (not_open units h f.values none k e)).same)) keeps.0,
-            inr (λ k opened e. true≢false (sym opened ∙ (kept k (not_open units h f.values none k e)).still)),
-          )
+              (let total : Same (weighed_total (weighed_of units) to h) (weighed_total (weighed_of units) (flying f left) h) = end_total units f ok m (knows units f ok left m is) plus_way h row in
+              let same : Same (stratum_sum units h (values_in to)) (stratum_sum units h f.values) = rw (total_is units h to inside, total_is units h (flying f left) inside) at total in
+              (same_trans same keeps.0, inl row))
+          | inr none ↦
+              (let kept : (k : ℕ) → is_fractional f.values k ≡ false → HasKept (weighed_of units) (flying f left) to k = end_kept units f ok left m is plus_way in (
+                same_trans (kept_sum units h f.values (values_in to) (λ k l e. (kept k (false_from_ne_true (is_fractional f.values k) (λ t. none k t e))).same)) keeps.0,
+                inr (λ k opened e. true≢false (sym opened ∙ (kept k (false_from_ne_true (is_fractional f.values k) (λ t. none k t e))).still)),
+              ))
         ]
 
     dropped_keeps : next units f ≡ independent → IsWholeIn units h n (flying (dropped f) left)
@@ -68,11 +63,7 @@ module _ (units : Units) (h n : ℕ) (inside : h < length units.firsts) where
     )
 
     flight_keeps : (a : Next) → next units f ≡ a → EachPart (λ p. IsWholeIn units h n p.state) (flight_parts units f left a)
-    flight_keeps (move m) is =
-        let stays = stays_by units f ok left (move m) is (no_begin m) in (
-          end_keeps (chosen units f m true) stays.0 (λ k still. (kept_by units f ok left (move m) is k still).0),
-          (end_keeps (chosen units f m false) stays.1.0 (λ k still. (kept_by units f ok left (move m) is k still).1.0), tt),
-        )
+    flight_keeps (move m) is = (end_keeps m is true, (end_keeps m is false, tt))
     flight_keeps independent is = (dropped_keeps is, tt)
     flight_keeps wide is = (keeps.0, tt)
 
@@ -85,7 +76,7 @@ module _ (units : Units) (h n : ℕ) (inside : h < length units.firsts) where
     -- a step of another stratum
     away_keeps : (ks : List ℕ) → IsStep units values ks → stratum units (get_or ks 0 0) ≢ h → EachPart (λ p. IsWholeIn units h n p.state) (moved (λ v. pairing v left) (parts_of units values ks))
     away_keeps ks step ne =
-        let out : (k : ℕ) → stratum units k ≡ h → is_one_of ks k ≡ false = λ k e. not_among ks k (λ t. ne (sym (step_at units values ks step k t).1 ∙ e)) in
+        let out : (k : ℕ) → stratum units k ≡ h → is_one_of ks k ≡ false = λ k e. false_from_ne_true (is_one_of ks k) (λ t. ne (sym (step_at units values ks step k t).1 ∙ e)) in
         each_paired units values ks left (IsWholeIn units h n)
         (λ t. same_trans (kept_sum units h values (taken_over (is_one_of ks) values t) (λ k l e. same_at _ k (taken_kept (is_one_of ks) values t k (out k e)))) keeps)
 

@@ -1,5 +1,6 @@
 -- A pivotal step, written unit by unit.
 use Rattle.std.proofs.Common.{◌≡◌, ◌≢◌, ℕ, ◌+◌, ◌-◌, ◌*◌, ◌/◌, ◌<◌, ◌≤◌, nat_lt, true, false, Some, None, List, [], ◌∷◌, take, length, get_or, set, arith, refl, sym, ap, ap₂, ◌∙◌, subst, inl, inr, length-set, length-take, get_or-take}
+use Rattle.std.specs.List.{AllByRecursion}
 use Rattle.std.proofs.lemmas.Bool.{cases_Bool, eqb-false, le-ltb, lt-ltb, ltb-false}
 use Rattle.std.proofs.lemmas.List.{ext_get_or, get_or-set_same, get_or-set_other}
 use Prim.Native.Nat.{◌∣◌}
@@ -17,12 +18,12 @@ use Rattle.smp_stratcube.specs.Values.{fractional_count, fractional_units, is_fr
 use Rattle.smp_stratcube.specs.{Pairs.{first_pair, paired_parts, step_units}, Kept.Fronts.{IsFront, front_units}}
 use Rattle.smp_stratcube.specs.Kept.Pairs.{HasStratum, as_value, is_one_of, met_at, parts_of, settled_at, units_by}
 use Rattle.smp_stratcube.specs.{Laws.Meetings.{step_in, step_open, step_some}, Laws.Units.{fractional_in}}
-use Rattle.smp_stratcube.specs.Laws.Pairs.{EachOf, IsMeeting, among_apart, each_of, first_among, pair_found, second_among, stands_at}
+use Rattle.smp_stratcube.specs.Laws.Pairs.{IsMeeting, among_apart, each_of, first_among, pair_found, second_among, stands_at}
 use Rattle.smp_stratcube.specs.Laws.Taken.{length_taken, numer_over, taken_kept, taken_moved}
 
 -- values of which these units have taken over numerators, and the others are as they were
 pub written : (ks : List ℕ) (values : List Value) (t : Shares) (new : List Value) → length new ≡ length values →
-    EachOf (λ k. value new k ≡ as_value (get_or t.numer k 0) t.den) ks → ((k : ℕ) → is_one_of ks k ≡ false → value new k ≡ value values k) → new ≡ taken_over (is_one_of ks) values t
+    AllByRecursion (λ k. value new k ≡ as_value (get_or t.numer k 0) t.den) ks → ((k : ℕ) → is_one_of ks k ≡ false → value new k ≡ value values k) → new ≡ taken_over (is_one_of ks) values t
 written ks values t new count on off =
     ext_get_or nothing new (taken_over (is_one_of ks) values t) (count ∙ sym (length_taken (is_one_of ks) values t))
     (λ k l. elim (cases_Bool (is_one_of ks k)) [

@@ -1,7 +1,7 @@
 -- Values of units in lowest terms. With each stands whether a move has changed it.
 use Rattle.std.specs.Prelude.{◌≡◌, ℕ, ◌*◌, ◌/◌, ◌≤◌, Bool, true, false, cond, nat_eq, List, [], ◌∷◌, ◌++◌}
 use Rattle.std.specs.Prelude.{length, map, filter, slice_index, slice_index_or}
-use Rattle.std.specs.List.{count_by, range_with_len}
+use Rattle.std.specs.List.{count_by, flat_map, range_with_len}
 use Rattle.std.specs.Int.{IsGcd}
 use Rattle.smp_frac.specs.Fractions.{Fraction}
 use Rattle.smp_prob.specs.Shares.{Shares}
@@ -53,22 +53,13 @@ over_common den values = record {
   den = den;
 }
 
--- the fractional units that moves have changed
-abbrev pub touched_units : List Value → List ℕ
-touched_units values = filter (λ k. (value values k).touched) (fractional_units values)
-
--- of each of these units the common denominator of its stratum, and the denominator of its value
-abbrev pub denominators : Units → List Value → List ℕ → List ℕ
-denominators units values [] = []
-denominators units values (k ∷ ks) =
-    first units k ∷ (value values k).at.den ∷ denominators units values ks
-
 -- The common denominator of a state of the flight and of a line through these units, of which there may be none: the least common
 -- multiple of the denominator of each stratum in which a touched unit is fractional, of those of the values of these units, and of
 -- the denominators of the strata of the line.
 abbrev pub common_of : Units → List Value → List ℕ → ℕ
 common_of units values line =
-    common_multiple (denominators units values (touched_units values) ++ map (first units) line)
+    let touched = filter (λ k. (value values k).touched) (fractional_units values) in
+    common_multiple (flat_map (λ k. first units k ∷ (value values k).at.den ∷ []) touched ++ map (first units) line)
 
 -- the least common denominator of the values of a stratum's fractional units
 abbrev pub stratum_common : Units → List Value → ℕ → ℕ

@@ -1,14 +1,11 @@
 -- The steps of flight and landing, whichever order their search goes in: the parts are lawful, a move keeps the totals, and the
 -- landing begins only where no direction is left or a number is wide.
 use Rattle.std.proofs.Common.{◌≡◌, ◌≢◌, ℕ, ◌+◌, ◌<◌, ◌≤◌, ℤ, Bool, true, false, List, length, arith, refl}
-use Rattle.std.proofs.Common.{subst}
+use Rattle.std.proofs.Common.{sym, ◌∙◌, subst}
 use Rattle.std.proofs.lemmas.Bool.{eqb-false}
-use Rattle.std.proofs.lemmas.List.{length-map}
 use Rattle.smp_frac.specs.Limits.{most_denominator}
 use Rattle.smp_frac.specs.Fractions.{Same, whole, integer, plus, times}
 use Rattle.smp_frac.proofs.Arithmetic.{same_refl}
-use Rattle.smp_kernel.proofs.SearchLaw.{none_is_few}
-use Rattle.smp_kernel.specs.Searches.{none}
 use Rattle.smp_prob.specs.Shares.{Shares}
 use Rattle.smp_split.specs.Lenses.{as_unit}
 use Rattle.smp_split.specs.Parts.{moved}
@@ -17,14 +14,16 @@ use Rattle.smp_split.specs.Laws.Lenses.{parts_through}
 use Rattle.smp_values.specs.Values.{IsValues, fractional_count, is_settled, value_at}
 use Rattle.smp_values.specs.Steps.{pivotal_parts, steps_tree}
 use Rattle.smp_values.proofs.Pivotal.{steps_lawful}
+use Rattle.smp_moves.proofs.Computed.{few_by}
 use Rattle.smp_moves.proofs.Flights.{lone_split}
+use Rattle.smp_moves.specs.Ends.{end_of}
 use Rattle.smp_moves.specs.Cubes.{flying, pairing, values_in, flight_parts, landed, tree_by}
 use Rattle.smp_moves.specs.Kept.Computed.{dropped}
-use Rattle.smp_flight.specs.States.{Units, Flight, IsFlight, columns_of, column}
+use Rattle.smp_flight.specs.States.{Units, Flight, IsFlight}
 use Rattle.smp_moves.specs.Moves.{Move, IsOrder, fraction_of, entry_of, Next, move, independent, wide, chosen_line, chosen_extent}
-use Rattle.smp_flight.specs.Steps.{next_on, chosen}
+use Rattle.smp_flight.specs.Steps.{next_on, next_on_is, chosen}
 use Rattle.smp_flight.specs.Statements.{GoesBothWays}
-use Rattle.smp_moves.specs.Steps.{Finds, IsNext}
+use Rattle.smp_moves.specs.Steps.{IsNext}
 use Rattle.smp_flight.specs.Moves.{setting_of}
 use Rattle.smp_flight.specs.Totals.{row_total}
 use Rattle.smp_flight.specs.Selections.{Balancing, IsBalancing, IsWholeOrder, parts_by, shares_cube}
@@ -85,14 +84,11 @@ module _ (units : Units) (f : Flight) (left : ℕ) (order : List ℕ) (ok : IsFl
 
 module _ (units : Units) (f : Flight) (left : ℕ) (order : List ℕ) (ok : IsFlight units f)
     (whole_order : IsWholeOrder f.values order) where
-  -- where no direction is left, the search found none
-  pub finds_none : next_on units order f ≡ independent → Finds (setting_of units) f order none
-  finds_none is = subst (IsNext (setting_of units) f order) is (next_is units f order ok whole_order.is_order)
-
+  -- where no direction is left, no more units are fractional than there are rows in force
   pub few_fractional : next_on units order f ≡ independent → fractional_count f.values ≤ f.rows
   few_fractional is =
-      let few : length (columns_of units order) ≤ f.rows = none_is_few f.rows (columns_of units order) (finds_none is) in
-      omega (arith, few, length-map order (column units), whole_length f.values order whole_order)
+      let few = few_by (setting_of units) (end_of units.requested.den) f order (sym (next_on_is units order f) ∙ is) in
+      omega (arith, few, whole_length f.values order whole_order)
 
   -- so where units are fractional, some row is in force
   pub some_row : next_on units order f ≡ independent → is_settled f.values ≡ false → 1 ≤ f.rows

@@ -1,6 +1,7 @@
 -- A move keeps the totals of all rows in force, whichever fractional units its search goes through.
-use Rattle.std.proofs.Common.{◌≡◌, ℕ, zero, suc, ◌*◌, ◌<◌, max, Bool, true, false, ℤ, pos, ◌*ℤ◌, List, []}
-use Rattle.std.proofs.Common.{◌∷◌, map, take, length, get_or, arith, refl, sym, ap, ◌∙◌, subst}
+use Rattle.std.proofs.Common.{◌≡◌, ℕ, zero, suc, ◌*◌, ◌<◌, ◌≤◌, Bool, ℤ, pos, ◌*ℤ◌, List, []}
+use Rattle.std.proofs.Common.{◌∷◌, map, take, length, get_or, arith, refl, sym, ap, ◌∙◌, subst, mul-pos}
+use Rattle.std.proofs.lemmas.Int.{ints}
 use Rattle.std.specs.Int.RustNames.{unsigned_abs}
 use Rattle.std.proofs.lemmas.List.{take-map, length-take-le, length-map}
 use Rattle.smp_frac.specs.Fractions.{Fraction, Same, whole, integer, plus, times, over, sum_below}
@@ -11,7 +12,7 @@ use Rattle.smp_kernel.specs.Searches.{found}
 use Rattle.smp_kernel.proofs.FoundCircuits.{circuit_row, cut_circuit_short, in_row}
 use Rattle.smp_values.specs.Values.{value_at}
 use Rattle.smp_flight.specs.States.{Units, Flight, IsFlight, size, column, columns_of}
-use Rattle.smp_moves.specs.Moves.{Line, IsLine, Move, entry_of, fraction_of, chosen_line, chosen_extent}
+use Rattle.smp_moves.specs.Moves.{Line, IsLine, Move, entry_of}
 use Rattle.smp_moves.specs.Steps.{Finds, IsDirection}
 use Rattle.smp_flight.specs.Moves.{setting_of}
 use Rattle.smp_flight.specs.Steps.{chosen}
@@ -24,8 +25,8 @@ use Rattle.smp_flight.specs.Laws.NextProperties.{known}
 use Rattle.smp_flight.specs.Laws.Nexts.{IsKnown}
 use Rattle.smp_flight.specs.Laws.Moved.{chosen_there}
 use Rattle.smp_moves.proofs.LineSums.{sum_line, line_dot}
-use Rattle.smp_moves.proofs.Proportions.{first_row, other_row}
-use Rattle.smp_moves.proofs.Totals.{sum_stays, back_total}
+use Rattle.smp_moves.proofs.Proportions.{as_positive, as_product, entry_by, stratum_row, variable_row}
+use Rattle.smp_moves.proofs.Totals.{ends_stay}
 
 -- the number of a unit in a row
 abbrev pub number_in : Units → ℕ → ℕ → ℤ
@@ -54,33 +55,46 @@ module _ (units : Units) (f : Flight) (is_flight : IsFlight units f) (order : Li
       → own.divisor *ℤ entry line.entries j ≡ pos (size units (get_or line.units j 0)) *ℤ entry w j
   product j l = own.product j ∙ entry-sized units line.units w j l (omega (arith, l, units_count))
 
+  abbrev A : Fraction
+  A = over units.requested.den (unsigned_abs own.divisor * is_flight.are.factor)
+
+  -- the entry of a unit is in proportion to its probability times its factor
+  entry_is : (j : ℕ) → j < length line.units → Same (integer (entry line.entries j))
+      (times A (times (value_at units.requested (get_or line.units j 0)) (integer (entry w j))))
+  entry_is j l =
+      let g : ℕ = unsigned_abs own.divisor in
+      let k : ℕ = get_or line.units j 0 in
+      let numer : get_or units.requested.numer k 0 ≡ size units k * is_flight.are.factor = is_flight.are.proportional k (inside j l) in
+      entry_by g (size units k) (is_flight.are.factor * units.requested.den) (g * is_flight.are.factor) units.requested.den
+      (get_or units.requested.numer k 0) units.requested.den (entry line.entries j) (entry w j)
+      (mul-pos (omega (arith, ints, own.positive)) is_flight.are.some_factor) is_flight.are.requested.positive (omega arith)
+      (omega (arith, ap (λ t. units.requested.den * t) numer))
+      (ap (λ (z : ℤ). z *ℤ entry line.entries j) (sym (as_positive own.divisor own.positive)) ∙ product j l)
+
   -- the factor of the proportion
   factor : ℕ → Fraction
-  factor zero = over 1 (unsigned_abs own.divisor)
-  factor (suc row) = over (max 1 units.requested.den) (unsigned_abs own.divisor * is_flight.are.factor)
+  factor zero = times A (over is_flight.are.factor units.requested.den)
+  factor (suc row) = A
 
   in_proportion : (row j : ℕ) → j < length line.units →
       Same (times (expanded units row (get_or line.units j 0)) (integer (entry line.entries j)))
       (times (factor row) (integer (entry w j *ℤ number_in units row (get_or line.units j 0))))
   unfolding factor
   in_proportion zero j l =
-      let first : number_in units 0 (get_or line.units j 0) ≡ pos (size units (get_or line.units j 0)) =
-      is_flight.are.first (get_or line.units j 0) (inside j l) in
+      let k : ℕ = get_or line.units j 0 in
       subst (λ (z : ℤ). Same (times (whole 1) (integer (entry line.entries j)))
-      (times (over 1 (unsigned_abs own.divisor)) (integer (entry w j *ℤ z)))) (sym first)
-      (first_row own.divisor (entry line.entries j) (entry w j) (size units (get_or line.units j 0)) own.positive (product j l))
+      (times (times A (over is_flight.are.factor units.requested.den)) (integer (entry w j *ℤ z)))) (sym (is_flight.are.first k (inside j l)))
+      (stratum_row A (integer (entry line.entries j)) (over is_flight.are.factor units.requested.den) (entry w j)
+      (get_or units.requested.numer k 0) units.requested.den (size units k) (entry_is j l)
+      (subst (λ (n : ℕ). Same (over n units.requested.den) (times (over is_flight.are.factor units.requested.den) (whole (size units k))))
+      (sym (is_flight.are.proportional k (inside j l)))
+      (as_product (size units k) is_flight.are.factor units.requested.den is_flight.are.requested.positive)))
   in_proportion (suc row) j l =
       let k : ℕ = get_or line.units j 0 in
-      let share : get_or units.requested.numer (get_or line.units j 0) 0
-      ≡ size units (get_or line.units j 0) * is_flight.are.factor =
-      is_flight.are.proportional (get_or line.units j 0) (inside j l) in
-      subst (λ (n : ℕ). Same (times (times (integer (number_in units (suc row) (get_or line.units j 0)))
-      (over (max 1 units.requested.den) n)) (integer (entry line.entries j)))
-      (times (over (max 1 units.requested.den) (unsigned_abs own.divisor * is_flight.are.factor))
-      (integer (entry w j *ℤ number_in units (suc row) (get_or line.units j 0))))) (sym share)
-      (other_row own.divisor (entry line.entries j) (entry w j) (number_in units (suc row) (get_or line.units j 0))
-      (size units (get_or line.units j 0)) is_flight.are.factor (max 1 units.requested.den) own.positive
-      (is_flight.are.some_size (get_or line.units j 0) (inside j l)) is_flight.are.some_factor (product j l))
+      let some : 1 ≤ size units k * is_flight.are.factor = mul-pos (is_flight.are.some_size k (inside j l)) is_flight.are.some_factor in
+      variable_row A (integer (entry line.entries j)) (number_in units (suc row) k) (entry w j)
+      (get_or units.requested.numer k 0) units.requested.den
+      (omega (arith, some, is_flight.are.proportional k (inside j l))) is_flight.are.requested.positive (entry_is j l)
 
   none_in : (row : ℕ) → row < f.rows → dot w (map (number_in units row) line.units) ≡ pos 0
   none_in row l =
@@ -101,24 +115,12 @@ module _ (units : Units) (f : Flight) (is_flight : IsFlight units f) (order : Li
 -- ---- the ends of a move
 
 module _ (units : Units) (f : Flight) (order : List ℕ) (ok : IsFlight units f) (m : Move) (k : IsKnown units f order m) where
-  direct_total : (row : ℕ) → row < f.rows
-      → Same (sum_below (length units.sizes) (λ k. times (expanded units row k) (integer (entry_of m.direction k))))
-      (whole 0)
-  direct_total row l = direction_total units f ok order k.circuit k.finds m.direction k.line k.is.direction row l
-
-  along_total : (plus : Bool) (row : ℕ) → row < f.rows
-      → Same (sum_below (length units.sizes)
-      (λ k. times (expanded units row k) (integer (entry_of (chosen_line m plus) k)))) (whole 0)
-  along_total true row l = direct_total row l
-  along_total false row l = back_total (length units.sizes) (expanded units row) m.direction (direct_total row l)
-
   pub end_total : (plus : Bool) (row : ℕ) → row < f.rows
       → Same (row_total units (chosen units f m plus).values row) (row_total units f.values row)
   end_total plus row l =
-      sum_stays (length units.sizes) (expanded units row) (value_at f.values)
-      (value_at (chosen units f m plus).values) (fraction_of (chosen_extent m plus))
-      (entry_of (chosen_line m plus))
-      ((chosen_there units f ok order m plus k).moved.values) (along_total plus row l)
+      ends_stay (length units.sizes) (expanded units row) (value_at f.values) (λ p. value_at (chosen units f m p).values) m
+      (λ p. (chosen_there units f ok order m p k).moved.values)
+      (direction_total units f ok order k.circuit k.finds m.direction k.line k.is.direction row l) plus
 
 pub move_keeps : EachKeepsTotals
 move_keeps units f order ok ordered m is = end_total units f order ok m (known units f order ok ordered m is)

@@ -1,12 +1,12 @@
 -- The step has the properties of a search and of a move.
 use Rattle.std.proofs.Common.{◌≡◌, ℕ, ◌+◌, ◌≤◌, ◌&&◌, nat_le, if◌then◌else◌, List, ℤ, take, length, arith}
 use Rattle.std.proofs.Common.{refl, sym, ap, ◌∙◌, subst}
-use Rattle.std.proofs.lemmas.List.{take_all, take-map, take-take}
+use Rattle.std.proofs.lemmas.List.{take-map, take-take}
 use Rattle.std.proofs.lemmas.Nat.Gcd.{dvd_refl}
 use Rattle.smp_kernel.specs.RowReduction.{cut, AreIndependent}
 use Rattle.smp_kernel.specs.Searches.{Search, found, none, too_wide, IsSearch}
 use Rattle.smp_moves.specs.Kept.Searches.{search, search_is}
-use Rattle.smp_kernel.proofs.SearchLaw.{together, one_answer, first_decide, few_enter}
+use Rattle.smp_kernel.proofs.SearchLaw.{one_answer, first_decide, few_enter}
 use Rattle.smp_kernel.proofs.Existence.{cut_short}
 use Rattle.smp_frac.specs.Limits.{most_denominator}
 use Rattle.smp_kernel.proofs.FoundCircuits.{circuit_length}
@@ -17,7 +17,7 @@ use Rattle.smp_flight.specs.Moves.{setting_of}
 use Rattle.smp_moves.specs.Ends.{end_of, entries_fit}
 use Rattle.smp_flight.specs.Steps.{next_on, next_on_is}
 use Rattle.smp_moves.specs.Kept.Computed.{direction_on, next_along, next_by, next_of}
-use Rattle.smp_moves.proofs.Computed.{finds_none, next_is as next_is_by}
+use Rattle.smp_moves.proofs.Computed.{independent_by, next_is as next_is_by}
 use Rattle.smp_flight.specs.Laws.Nexts.{IsKnown, known_by, owes}
 
 -- ---- the first state
@@ -31,17 +31,6 @@ started_flight units are = record {
   multiple = dvd_refl units.requested.den;
   rows_in = omega arith;
 }
-
--- ---- where there is none, the columns are independent
-
-module _ (units : Units) (s : Flight) (order : List ℕ) where
-  pub independent_by : next_by (setting_of units) (end_of units.requested.den) order s ≡ independent
-      → AreIndependent s.rows (cut s.rows (columns_of units order))
-  independent_by e =
-      let cs : List (List ℤ) = cut s.rows (columns_of units order) in
-      subst (AreIndependent s.rows) (take_all (length cs) cs (omega arith))
-      (together s.rows cs (length cs) (finds_none (setting_of units) (end_of units.requested.den) s order e)
-      (length cs) (omega arith))
 
 -- ---- the first units of an order decide, one more than there are rows in force
 
@@ -104,7 +93,7 @@ module _ (units : Units) (s : Flight) (order : List ℕ) where
   known is_flight ok m e = known_by units s order is_flight ok m (sym (next_on_is units order s) ∙ e)
 
   pub independent_columns : next_on units order s ≡ independent → AreIndependent s.rows (cut s.rows (columns_of units order))
-  independent_columns e = independent_by units s order (sym (next_on_is units order s) ∙ e)
+  independent_columns e = independent_by (setting_of units) (end_of units.requested.den) s order (sym (next_on_is units order s) ∙ e)
 
   pub next_on_front : next_on units (take (s.rows + 1) order) s ≡ next_on units order s
   next_on_front = next_on_is units (take (s.rows + 1) order) s ∙ next_by_front units s order ∙ sym (next_on_is units order s)

@@ -37,18 +37,16 @@ moving line k some =
     rw (ne_eqb (unsigned_abs (entry_of line k)) 0 ne) refl
 
 -- fewer units are fractional where one was and isn't, and each that is was so
-pub fewer_open : (old new : List Value) → length new ≡ length old → (u : ℕ) → u < length old
-    → is_fractional old u ≡ true → is_fractional new u ≡ false
+pub fewer_open : (old new : List Value) → length new ≡ length old → (u : ℕ) → is_fractional old u ≡ true → is_fractional new u ≡ false
     → ((k : ℕ) → is_fractional new k ≡ true → is_fractional old k ≡ true)
     → fractional_count new < fractional_count old
-fewer_open old new same u l was is fewer =
+fewer_open old new same u was is fewer =
     let xs : List ℕ = range_with_len 0 (length old) in
-    let count : length xs ≡ length old = length-range_with_len 0 (length old) in
-    let at : (k : ℕ) → k < length old → get_or xs k 0 ≡ k = λ k m. get_or-range_with_len 0 (length old) k 0 m
-    ∙ (let z : 0 + k ≡ k = omega arith in z) in
+    let l : u < length old = fractional_in old u was in
+    let at : get_or xs u 0 ≡ u = get_or-range_with_len 0 (length old) u 0 l ∙ (let z : 0 + u ≡ u = omega arith in z) in
     rw same
-    (count_falls (is_fractional old) (is_fractional new) xs xs u refl (λ k m. fewer (get_or xs k 0)) (omega (arith, l, count))
-    (rw (at u l) was) (rw (at u l) is))
+    (count_falls (is_fractional old) (is_fractional new) xs xs u refl (λ k m. fewer (get_or xs k 0))
+    (omega (arith, l, length-range_with_len 0 (length old))) (rw at was) (rw at is))
 
 module _ (n : ℕ) (values : List Value) (are : AreValues n values) (den : ℕ) (some : 1 ≤ den) (narrow : den ≤ 2 ^ 80)
     (line : Line) (ok : IsLine (over_common den values) line)
@@ -57,51 +55,38 @@ module _ (n : ℕ) (values : List Value) (are : AreValues n values) (den : ℕ) 
   s = over_common den values
 
   abbrev last : Shares
-  last = end_of 1 (over_common den values) line
+  last = end_of 1 s line
 
   abbrev after : List Value
-  after = taken_over (moves line) values (end_of 1 (over_common den values) line)
+  after = taken_over (moves line) values last
 
-  pub is_over : IsOver 1 (over_common den values)
+  pub is_over : IsOver 1 s
   is_over = (let v = over_values n values are den some narrow in record {
     some = omega arith;
     multiple = one-dvd den;
     values = record { count = refl; positive = v.positive; narrow = v.narrow; each = v.each };
   })
 
-  last_moved : IsMoved 1 (over_common den values) line (extent (over_common den values) line) (end_of 1 (over_common den values) line)
+  last_moved : IsMoved 1 s line (extent s line) last
   last_moved = moved 1 s is_over line ok
 
-  -- the denominator of a unit at which the line isn't 0
-  on_divides : (k : ℕ) → entry_of line k ≢ pos 0 → (value values k).at.den ∣ den
-  on_divides k ne =
-      elim (place_or line.units k) [
-        | inl h ↦ subst (λ (x : ℕ). (value values x).at.den ∣ den) h.2 (divides h.0 h.1)
-        | inr out ↦ absurd (ne (off_line s line ok k out))
-      ]
-
-  on_within : (k : ℕ) → entry_of line k ≢ pos 0 → k < length values
-  on_within k ne =
+  -- a unit at which the line isn't 0
+  on_unit : (k : ℕ) → entry_of line k ≢ pos 0 → ((value values k).at.den ∣ den) × (k < length values)
+  on_unit k ne =
       elim (place_or line.units k) [
         | inr out ↦ absurd (ne (off_line s line ok k out))
-        | inl h ↦
-            (let opened : shares.is_fractional s (get_or line.units h.0 0) ≡ true = going h.0 h.1 in
-            let own : is_fractional values (get_or line.units h.0 0) ≡ true =
-            sym (over_fractional n values are den some (get_or line.units h.0 0) (divides h.0 h.1)) ∙ opened in
-            subst (λ (x : ℕ). x < length values) h.2 (fractional_in values (get_or line.units h.0 0) own))
+        | inl h ↦ subst (λ (x : ℕ). ((value values x).at.den ∣ den) × (x < length values)) h.2
+            (divides h.0 h.1, fractional_in values (get_or line.units h.0 0)
+            (sym (over_fractional n values are den some (get_or line.units h.0 0) (divides h.0 h.1))
+                ∙ order_going s line.units ok.order h.0 h.1))
       ]
-    where
-      going : (j : ℕ) → j < length line.units → shares.is_fractional s (get_or line.units j 0) ≡ true
-      going j l = order_going s line.units ok.order j l
 
-  pub after_values : AreValues n (taken_over (moves line) values (end_of 1 (over_common den values) line))
+  pub after_values : AreValues n after
   after_values = taken_values (moves line) values last n are last_moved.positive (end_within 1 s is_over line ok)
 
   -- each value is so far along the line
-  pub after_along : (k : ℕ) → Same (value_at
-      (taken_over (moves line) values (end_of 1 (over_common den values) line)) k)
-      (plus (value_at values k) (times (fraction_of (extent (over_common den values) line))
-      (integer (entry_of line k))))
+  pub after_along : (k : ℕ) → Same (value_at after k)
+      (plus (value_at values k) (times (fraction_of (extent s line)) (integer (entry_of line k))))
   after_along k =
       let t : Fraction = fraction_of (extent s line) in
       elim (zero_or (entry_of line k)) [
@@ -111,16 +96,14 @@ module _ (n : ℕ) (values : List Value) (are : AreValues n values) (den : ℕ) 
             (rw none (same_sym (same_trans (plus_same (same_refl (value_at values k)) (times-zero t)) (plus-zero (value_at values k))))))
         | inr ne ↦
             (let here = taken_value (moves line) values last n are last_moved.positive
-            (end_within 1 s is_over line ok) k (on_within k ne) (moving line k ne) in
+            (end_within 1 s is_over line ok) k (on_unit k ne).1 (moving line k ne) in
             same_trans here (same_trans (last_moved.values k)
-            (plus_same (over_value n values are den some k (on_divides k ne))
+            (plus_same (over_value n values are den some k (on_unit k ne).0)
             (same_refl (times t (integer (entry_of line k)))))))
       ]
 
   -- what is fractional there was so before
-  pub after_fractional : (k : ℕ) → is_fractional
-      (taken_over (moves line) values (end_of 1 (over_common den values) line)) k ≡ true
-      → is_fractional values k ≡ true
+  pub after_fractional : (k : ℕ) → is_fractional after k ≡ true → is_fractional values k ≡ true
   after_fractional k h =
       elim (zero_or (entry_of line k)) [
         | inl none ↦ subst (λ (v : Value). shares.fractional v.at.den v.at.num ≡ true)
@@ -128,15 +111,15 @@ module _ (n : ℕ) (values : List Value) (are : AreValues n values) (den : ℕ) 
         | inr ne ↦
             (let there : shares.is_fractional last k ≡ true =
             sym (taken_fractional (moves line) values last n are last_moved.positive
-            (end_within 1 s is_over line ok) k (on_within k ne) (moving line k ne)) ∙ h in
-            sym (over_fractional n values are den some k (on_divides k ne)) ∙ keeps_fractional 1 s is_over line ok k there)
+            (end_within 1 s is_over line ok) k (on_unit k ne).1 (moving line k ne)) ∙ h in
+            sym (over_fractional n values are den some k (on_unit k ne).0) ∙ keeps_fractional 1 s is_over line ok k there)
       ]
 
   -- a unit that is settled there
   abbrev unit : ℕ
   unit = first_unit 1 s is_over line ok
 
-  unit_moves : entry_of line (first_unit 1 (over_common den values) is_over line ok) ≢ pos 0
+  unit_moves : entry_of line unit ≢ pos 0
   unit_moves z =
       let r = reached 1 s is_over line ok in
       let at : entry_of line (get_or line.units r.place 0) ≡ entry line.entries r.place = on_line s line ok r.place r.within in
@@ -145,13 +128,11 @@ module _ (n : ℕ) (values : List Value) (are : AreValues n values) (den : ℕ) 
       let zero_size : (reach s line).size ≡ 0 = rw none at size_is in
       omega (arith, zero_size, r.some_size)
 
-  pub after_falls : fractional_count (taken_over (moves line) values (end_of 1 (over_common den values) line)) < fractional_count values
+  pub after_falls : fractional_count after < fractional_count values
   after_falls =
       let settled = settled_unit 1 s is_over line ok in
-      let inside : unit < length values = on_within unit unit_moves in
-      let was : is_fractional values unit ≡ true =
-      sym (over_fractional n values are den some unit (on_divides unit unit_moves)) ∙ settled.0 in
-      let is : is_fractional after unit ≡ false =
-      taken_fractional (moves line) values last n are last_moved.positive (end_within 1 s is_over line ok) unit
-      inside (moving line unit unit_moves) ∙ settled.1 in
-      fewer_open values after (length_taken (moves line) values last) unit inside was is after_fractional
+      let here = on_unit unit unit_moves in
+      fewer_open values after (length_taken (moves line) values last) unit
+      (sym (over_fractional n values are den some unit here.0) ∙ settled.0)
+      (taken_fractional (moves line) values last n are last_moved.positive (end_within 1 s is_over line ok) unit here.1
+      (moving line unit unit_moves) ∙ settled.1) after_fractional

@@ -5,7 +5,7 @@ use Rattle.std.proofs.lemmas.Bool.{cases_Bool}
 use Rattle.std.proofs.lemmas.Nat.Gcd.{dvd_refl}
 use Rattle.std.proofs.lemmas.List.{get_or-set_same}
 use Prim.Native.Nat.{◌∣◌}
-use Rattle.smp_frac.specs.Fractions.{Same, whole, over, plus, times}
+use Rattle.smp_frac.specs.Fractions.{Fraction, Same, whole, over, plus, times}
 use Rattle.smp_frac.proofs.Arithmetic.{same_refl, same_sym, same_trans, one-times, plus_same, times_same}
 use Rattle.smp_frac.proofs.Over.{over_plus}
 use Rattle.smp_prob.specs.Shares.{Shares}
@@ -34,6 +34,11 @@ use Rattle.smp_stratcube.specs.Laws.Units.{fractional_in, stratum_divides, strat
 use Rattle.smp_stratcube.specs.Laws.Ends.{fewer_open}
 use Rattle.smp_stratcube.specs.Laws.Pairs.{IsMeeting, IsStep, after_fewer, after_pairing, first_among, second_among, step_at}
 
+plus_over : (x y d : ℕ) → Same (plus (over x d) (over y d)) (over (x + y) d)
+plus_over x y d =
+    let one : 1 * x + y ≡ x + y = omega arith in
+    same_trans (plus_same (same_sym (one-times (over x d))) (same_refl (over y d))) (rw (← one) (over_plus 1 x y d))
+
 -- numerators over this denominator, by which one of these units is settled
 record Settles (ks : List ℕ) (den : ℕ) (t : Shares) : Type 0 where
   pub den_is : t.den ≡ den
@@ -50,13 +55,12 @@ module _ (units : Units) (values : List Value) (ok : IsPairing units values) (le
   den = stratum_common units values (stratum units (get_or ks 0 0))
 
   abbrev s : Shares
-  s = over_common (stratum_common units values (stratum units (get_or ks 0 0))) values
+  s = over_common den values
 
-  pub step_some : 1 ≤ stratum_common units values (stratum units (get_or ks 0 0))
+  pub step_some : 1 ≤ den
   step_some = stratum_some units ok.are n values ok.values (stratum units (get_or ks 0 0))
 
-  pub step_values : IsValues (length units.members) (2 ^ 80)
-      (over_common (stratum_common units values (stratum units (get_or ks 0 0))) values)
+  pub step_values : IsValues n (2 ^ 80) s
   step_values = over_values n values ok.values den step_some (ok.narrow (stratum units (get_or ks 0 0)))
 
   going : (k : ℕ) → is_one_of ks k ≡ true → is_fractional values k ≡ true
@@ -70,42 +74,53 @@ module _ (units : Units) (values : List Value) (ok : IsPairing units values) (le
   pub step_inside : (k : ℕ) → is_one_of ks k ≡ true → k < length values
   step_inside k h = fractional_in values k (going k h)
 
-  pub step_in : (k : ℕ) → is_one_of ks k ≡ true
-      → k < length (over_common (stratum_common units values (stratum units (get_or ks 0 0))) values).numer
+  pub step_in : (k : ℕ) → is_one_of ks k ≡ true → k < length s.numer
   step_in k h = omega (arith, step_inside k h, length_over n values ok.values den step_some, ok.values.count)
 
-  pub step_open : (k : ℕ) → is_one_of ks k ≡ true
-      → shares.is_fractional (over_common (stratum_common units values (stratum units (get_or ks 0 0))) values) k ≡ true
+  pub step_open : (k : ℕ) → is_one_of ks k ≡ true → shares.is_fractional s k ≡ true
   step_open k h = over_fractional n values ok.values den step_some k (divides k h) ∙ going k h
 
-  pub step_value : (k : ℕ) → is_one_of ks k ≡ true
-      → Same (shares.value_at (over_common (stratum_common units values (stratum units (get_or ks 0 0))) values) k) (value_at values k)
+  pub step_value : (k : ℕ) → is_one_of ks k ≡ true → Same (shares.value_at s k) (value_at values k)
   step_value k h = over_value n values ok.values den step_some k (divides k h)
 
   -- a part
   module _ (p : Part Shares) (is : IsPart (steps_tree n) (IsValues n (2 ^ 80)) s p) (z : Settles ks den p.state) where
-    over_stratum : (k : ℕ) → is_one_of ks k ≡ true → is_fractional (taken_over (is_one_of ks) values p.state) k ≡ true
+    abbrev taken : List Value
+    taken = taken_over (is_one_of ks) values p.state
+
+    over_stratum : (k : ℕ) → is_one_of ks k ≡ true → is_fractional taken k ≡ true
         → p.state.den ∣ stratum_common units values (stratum units k)
     over_stratum k h opened =
         subst (λ (x : ℕ). p.state.den ∣ stratum_common units values x) (sym (step_at units values ks step k h).1)
         (subst (λ (d : ℕ). d ∣ den) (sym z.den_is) (dvd_refl den))
 
     part_taken : IsPart (strat_tree units) (IsBalancing units) (pairing values left)
-        (record { weight = p.weight; state = pairing (taken_over (is_one_of ks) values p.state) left })
+        (record { weight = p.weight; state = pairing taken left })
     part_taken = record {
       heavy = is.heavy;
-      falls = fewer_open values (taken_over (is_one_of ks) values p.state) (length_taken (is_one_of ks) values p.state) z.unit
-          (step_inside z.unit z.among) (going z.unit z.among)
+      falls = fewer_open values taken (length_taken (is_one_of ks) values p.state) z.unit (going z.unit z.among)
           (taken_fractional (is_one_of ks) values p.state n ok.values is.member.positive is.member.each z.unit
           (step_inside z.unit z.among) z.among ∙ z.settled)
           (after_fewer units values ok (is_one_of ks) p.state is.member.positive is.member.each going over_stratum);
       member = after_pairing units values ok (is_one_of ks) p.state is.member.positive is.member.each going over_stratum;
     }
 
-    part_value : (k : ℕ) → is_one_of ks k ≡ true
-        → Same (value_at (taken_over (is_one_of ks) values p.state) k) (shares.value_at p.state k)
+    part_value : (k : ℕ) → is_one_of ks k ≡ true → Same (value_at taken k) (shares.value_at p.state k)
     part_value k h =
         taken_value (is_one_of ks) values p.state n ok.values is.member.positive is.member.each k (step_inside k h) h
+
+    -- it keeps the sum of two values where it keeps that of their numerators
+    sum_kept : (i j : ℕ) → is_one_of ks i ≡ true → is_one_of ks j ≡ true
+        → get_or p.state.numer i 0 + get_or p.state.numer j 0 ≡ get_or s.numer i 0 + get_or s.numer j 0
+        → Same (plus (value_at taken i) (value_at taken j)) (plus (value_at values i) (value_at values j))
+    sum_kept i j i_one j_one sum =
+        let both : Fraction = plus (shares.value_at p.state i) (shares.value_at p.state j) in
+        same_trans (plus_same (part_value i i_one) (part_value j j_one))
+        (same_trans (subst (λ (d : ℕ). Same both (over (get_or s.numer i 0 + get_or s.numer j 0) d)) z.den_is
+        (subst (λ (c : ℕ). Same both (over c p.state.den)) sum
+        (plus_over (get_or p.state.numer i 0) (get_or p.state.numer j 0) p.state.den)))
+        (same_trans (same_sym (plus_over (get_or s.numer i 0) (get_or s.numer j 0) den))
+            (plus_same (step_value i i_one) (step_value j j_one))))
 
   -- two parts
   module _ (x y : Part Shares) (lawful : LawfulParts (steps_tree n) (IsValues n (2 ^ 80)) s (x ∷ y ∷ []))
@@ -214,42 +229,20 @@ module _ (units : Units) (values : List Value) (ok : IsPairing units values) (le
       split_in_two units values ok left (i ∷ j ∷ []) m _ _ lawful
       (settles_two (pair_first a b both.den) numbers.first_falls) (settles_two (pair_second a b both.den) numbers.second_falls)
 
-  -- a part keeps the sum of the two values, as it keeps that of their numerators
-  sum_kept : (weight : ℕ) (new : ℕ × ℕ)
-      → IsPart (steps_tree (length units.members)) (IsValues (length units.members) (2 ^ 80)) both
-      (record { weight = weight; state = with_pair both i j new })
-      → Settles (i ∷ j ∷ []) both.den (with_pair both i j new) → new.0 + new.1 ≡ a + b
-      → Same (plus (value_at (taken_over (is_one_of (i ∷ j ∷ [])) values (with_pair both i j new)) i)
-      (value_at (taken_over (is_one_of (i ∷ j ∷ [])) values (with_pair both i j new)) j))
-      (plus (value_at values i) (value_at values j))
-  sum_kept weight new is z sum =
-      let t : Shares = with_pair both i j new in
-      let p : Part Shares = record { weight = weight; state = with_pair both i j new } in
-      let ks : List ℕ = i ∷ j ∷ [] in
-      let total : get_or t.numer i 0 + get_or t.numer j 0 ≡ a + b =
-      omega (arith, two_at_i both.numer i j new.0 new.1 m.apart i_in j_in, two_at_j both.numer i j new.0 new.1 m.apart i_in j_in, sum) in
-      same_trans
-      (plus_same (part_value units values ok left ks m p is z i (first_among i (j ∷ [])))
-      (part_value units values ok left ks m p is z j (second_among i j [])))
-      (same_trans (plus_over (get_or t.numer i 0) (get_or t.numer j 0) both.den)
-      (same_trans (subst (λ x. Same (over (get_or t.numer i 0 + get_or t.numer j 0) both.den) (over x both.den)) total
-      (same_refl (over (get_or t.numer i 0 + get_or t.numer j 0) both.den)))
-      (same_trans (same_sym (plus_over a b both.den))
-      (plus_same (step_value units values ok left ks m i (first_among i (j ∷ [])))
-      (step_value units values ok left ks m j (second_among i j []))))))
-    where
-      plus_over : (x y d : ℕ) → Same (plus (over x d) (over y d)) (over (x + y) d)
-      plus_over x y d =
-          let one : 1 * x + y ≡ x + y = omega arith in
-          same_trans (plus_same (same_sym (one-times (over x d))) (same_refl (over y d))) (rw (← one) (over_plus 1 x y d))
-
+  -- each part keeps the sum of the two values
   pub meeting_sums : EachPart (λ p. Same (plus (value_at p.state i) (value_at p.state j)) (plus (value_at values i) (value_at values j)))
       (parts_of units values (i ∷ j ∷ []))
   meeting_sums =
-      let first : (pair_first a b both.den).0 + (pair_first a b both.den).1 ≡ a + b = omega arith in
-      let second : (pair_second a b both.den).0 + (pair_second a b both.den).1 ≡ a + b = omega arith in (
-        sum_kept _ (pair_first a b both.den) lawful.each.0 (settles_two (pair_first a b both.den) numbers.first_falls) first,
-        (sum_kept _ (pair_second a b both.den) lawful.each.1.0 (settles_two (pair_second a b both.den) numbers.second_falls) second, tt),
+      let sum : (new : ℕ × ℕ) → new.0 + new.1 ≡ a + b
+          → get_or (with_pair both i j new).numer i 0 + get_or (with_pair both i j new).numer j 0 ≡ a + b =
+      λ new e. omega (arith, two_at_i both.numer i j new.0 new.1 m.apart i_in j_in,
+          two_at_j both.numer i j new.0 new.1 m.apart i_in j_in, e) in
+      let kept = λ (p : Part Shares). sum_kept units values ok left (i ∷ j ∷ []) m p in (
+        kept _ lawful.each.0 (settles_two (pair_first a b both.den) numbers.first_falls) i j (first_among i (j ∷ [])) (second_among i j [])
+            (sum (pair_first a b both.den) (omega arith)),
+        (kept _ lawful.each.1.0 (settles_two (pair_second a b both.den) numbers.second_falls) i j
+            (first_among i (j ∷ [])) (second_among i j [])
+            (sum (pair_second a b both.den) (omega arith)), tt),
       )
 
 pub step_split : (units : Units) (values : List Value) (ok : IsPairing units values) (left : ℕ) (ks : List ℕ) → IsStep units values ks

@@ -1,80 +1,167 @@
--- The step of a state has the properties of a step.
-use Rattle.std.proofs.Common.{◌≡◌, ℕ, ◌<◌, ℤ, List, take, length, get_or, refl, sym, ap, subst}
+-- The direction of a circuit that was found goes through values over a common denominator. So the step of a state has the properties of
+-- a step, and the ends of its move are states of the flight.
+use Rattle.std.proofs.Common.{◌≡◌, ℕ, ◌<◌, ◌≤◌, ◌^◌, Bool, true, false, ℤ, List, [], take, length, get_or, arith, refl, sym, ap, ◌∙◌, subst}
+use Rattle.std.proofs.lemmas.List.Elements.{All-from_get_or}
 use Prim.Native.Nat.{◌∣◌}
+use Rattle.smp_frac.specs.Fractions.{Fraction, Same, integer, plus, times}
 use Rattle.smp_kernel.specs.Searches.{found}
+use Rattle.smp_kernel.proofs.Primitive.{not_primitive}
+use Rattle.smp_prob.specs.Shares.{Shares}
+use Rattle.smp_values.specs.Values as shares
 use Rattle.smp_moves.specs.Ends.{end_of, extent}
-use Rattle.smp_moves.specs.Moves.{Line, IsLine, turned}
-use Rattle.smp_moves.specs.Steps.{Finds, FitsOnLine, IsNext}
-use Rattle.smp_moves.specs.Kept.Computed.{direction}
+use Rattle.smp_moves.specs.Moves.{Line, Move, IsLine, chosen_extent, chosen_line, entry_of, fraction_of, turned}
+use Rattle.smp_moves.specs.Steps.{Finds, FitsAtEnds, FitsOnLine, IsDirection, IsNext}
+use Rattle.smp_moves.specs.Kept.Computed.{IsKnown, direction, next_along}
 use Rattle.smp_moves.specs.Kept.Ends.{IsOver}
-use Rattle.smp_moves.proofs.Computed.{Owes, next_is as next_is_by, stepping_by}
-use Rattle.smp_moves.proofs.Entries.{turned_line}
+use Rattle.smp_moves.proofs.Computed.{Owes, at_ends, is_direction as its_direction, next_is as next_is_by, on_line, stepping_by}
+use Rattle.smp_moves.proofs.Entries.{front_apart, turned_line}
+use Rattle.smp_moves.proofs.Products.{HaveSome}
 use Rattle.smp_stratcube.specs.declared.values.Value.{Value}
 use Rattle.smp_stratcube.specs.Units.{Units, share}
-use Rattle.smp_stratcube.specs.Values.{fractional_units, over_common, taken_over, value, common_of}
+use Rattle.smp_stratcube.specs.Values.{common_of, fractional_count, fractional_units, is_fractional, over_common, taken_over, value}
+use Rattle.smp_stratcube.specs.Values.{value_at}
 use Rattle.smp_stratcube.specs.States.{Flight, IsFlying}
-use Rattle.smp_stratcube.specs.Kept.Computed.{moved_values, moves, next}
+use Rattle.smp_stratcube.specs.Kept.Computed.{flight_of, moved_values, moves, next}
 use Rattle.smp_stratcube.specs.Moves.{IsMovedTo, Stepping, setting_of}
-use Rattle.smp_stratcube.specs.Laws.Taken.{taken_kept, taken_moved}
-use Rattle.smp_stratcube.specs.Laws.Ends.{after_along, after_values, is_over, moving, still}
-use Rattle.smp_stratcube.specs.Laws.Directions.{den_divides, den_some, line_ok, some_shares}
+use Rattle.smp_stratcube.specs.Laws.Taken.{over_fractional, taken_fresh, taken_kept, taken_moved}
+use Rattle.smp_stratcube.specs.Laws.Units.{common_some, fractional_in, fresh_divides, front_going, line_divides, order_apart, order_going}
+use Rattle.smp_stratcube.specs.Laws.Ends.{after_along, after_falls, after_fractional, after_values, is_over, moving, still}
 
--- ---- where the direction fits
+-- what holds of an end of a line through these units
+pub record IsEnd (units : Units) (f : Flight) (prefix : List ℕ) (line : Line) (t : Fraction) (end : List Value) : Type 0 where
+  pub through : line.units ≡ prefix
+  pub along : (k : ℕ) → Same (value_at end k) (plus (value_at f.values k) (times t (integer (entry_of line k))))
+  pub fewer : (k : ℕ) → is_fractional end k ≡ true → is_fractional f.values k ≡ true
+  pub falls : fractional_count end < fractional_count f.values
+  pub flight : IsFlying units (flight_of f.fixed end f.rows)
 
-module _ (units : Units) (f : Flight) (ok : IsFlying units f) (w : List ℤ)
-    (finds : Finds (setting_of units) f (fractional_units f.values) (found w))
-    (narrow : FitsOnLine (setting_of units) f.values w (direction (share units) (fractional_units f.values) w)) where
-  abbrev order : List ℕ
-  order = fractional_units f.values
+module _ (units : Units) (f : Flight) (ok : IsFlying units f) where
+  pub some_shares : HaveSome (share units) (fractional_units f.values)
+  some_shares j l =
+      let k : ℕ = get_or (fractional_units f.values) j 0 in
+      let s = ok.are.shares k (omega (arith, fractional_in f.values k (order_going f.values j l), ok.values.count)) in
+      record { num = s.some; den = omega (arith, s.below) }
 
-  abbrev line : Line
-  line = direction (share units) (fractional_units f.values) w
+  module _ (w : List ℤ) (finds : Finds (setting_of units) f (fractional_units f.values) (found w)) where
+    abbrev prefix : List ℕ
+    prefix = take (length w) (fractional_units f.values)
 
-  abbrev den : ℕ
-  den = common_of units f.values (take (length w) (fractional_units f.values))
+    abbrev line : Line
+    line = direction (share units) (fractional_units f.values) w
 
-  forth : IsLine (over_common den f.values) line
-  forth = line_ok units f ok w finds
+    abbrev den : ℕ
+    den = common_of units f.values prefix
 
-  back : IsLine (over_common den f.values) (turned line)
-  back = turned_line (over_common den f.values) line forth
+    abbrev s : Shares
+    s = over_common den f.values
 
-  pub over : IsOver 1 (over_common den f.values)
-  over = is_over (length units.members) f.values ok.values den (den_some units f ok w finds) narrow.denominator
-      line forth (den_divides units f ok w finds)
+    -- ---- the direction
+    prefix_open : (j : ℕ) → j < length prefix → get_or prefix j 0 < length f.values
+    prefix_open j l = fractional_in f.values (get_or prefix j 0) (front_going f.values (length w) j l)
 
-  moved_to : (l : Line) → IsLine (over_common den f.values) l → l.units ≡ take (length w) order →
-      IsMovedTo f.values l (extent (over_common den f.values) l) (taken_over (moves l) f.values (end_of 1 (over_common den f.values) l))
-  moved_to l l_ok same =
-      let divides = subst (λ (us : List ℕ). (j : ℕ) → j < length us
-      → (value f.values (get_or us j 0)).at.den ∣ den) (sym same) (den_divides units f ok w finds) in
-      let last = end_of 1 (over_common den f.values) l in
-      record {
-        are = after_values (length f.values) f.values (record { count = refl; each = ok.values.each }) den
-            (den_some units f ok w finds) narrow.denominator l l_ok divides;
-        at = after_along (length units.members) f.values ok.values den (den_some units f ok w finds) narrow.denominator l l_ok divides;
-        moved = λ k inside ne. ap (λ (v : Value). v.touched) (taken_moved (moves l) f.values last k inside (moving l k ne));
-        kept = λ k none. taken_kept (moves l) f.values last k (still l k none);
-      }
+    pub prefix_in : (j : ℕ) → j < length prefix → get_or prefix j 0 < length units.members
+    prefix_in j l = omega (arith, prefix_open j l, ok.values.count)
 
-  forward : IsMovedTo f.values line (extent (over_common den f.values) line) (moved_values units f.values line)
-  forward = moved_to line forth refl
+    pub is_direction : IsDirection (share units) (fractional_units f.values) w line
+    is_direction = its_direction (setting_of units) f (fractional_units f.values) w finds some_shares
 
-  backward : IsMovedTo f.values (turned line) (extent (over_common den f.values) (turned line)) (moved_values units f.values (turned line))
-  backward = moved_to (turned line) back refl
+    pub den_some : 1 ≤ den
+    den_some = common_some units ok.are (length units.members) f.values ok.values prefix
 
--- ---- so there are steps
+    pub den_divides : (j : ℕ) → j < length prefix → (value f.values (get_or prefix j 0)).at.den ∣ den
+    den_divides j l =
+        line_divides units ok.are (length units.members) f.values ok.values prefix j l (front_going f.values (length w) j l)
+        (fresh_divides units f ok (get_or prefix j 0) (prefix_open j l))
 
-pub owes : (units : Units) (f : Flight) → IsFlying units f → Owes (setting_of units) (moved_values units) f (fractional_units f.values)
-owes units f ok = record {
-  some = some_shares units f ok;
-  goes = λ w finds narrow. record { first = 1; over = over units f ok w finds narrow; ok = line_ok units f ok w finds };
-  up = forward units f ok;
-  down = backward units f ok;
-}
+    going : (j : ℕ) → j < length prefix → shares.is_fractional s (get_or prefix j 0) ≡ true
+    going j l =
+        over_fractional (length units.members) f.values ok.values den den_some (get_or prefix j 0) (den_divides j l)
+        ∙ front_going f.values (length w) j l
 
-pub next_is : (units : Units) (f : Flight) → IsFlying units f → IsNext (setting_of units) f (fractional_units f.values) (next units f)
-next_is units f ok = next_is_by (setting_of units) (moved_values units) f (fractional_units f.values) (owes units f ok)
+    pub line_ok : IsLine s line
+    line_ok = record {
+      lengths = is_direction.lengths;
+      order = record {
+        going = All-from_get_or (λ k. shares.is_fractional s k ≡ true) prefix 0 going;
+        distinct = front_apart (length w) (fractional_units f.values) (order_apart f.values);
+      };
+      some = λ z. not_primitive line.entries z is_direction.entries.primitive;
+    }
+
+    -- ---- where it fits
+    module _ (narrow : FitsOnLine (setting_of units) f.values w line) where
+      pub over : IsOver 1 s
+      over = is_over (length units.members) f.values ok.values den den_some narrow.denominator line line_ok den_divides
+
+      -- an end of a line through these units
+      module _ (l : Line) (l_ok : IsLine s l) (through : l.units ≡ prefix) where
+        abbrev end : List Value
+        end = taken_over (moves l) f.values (end_of 1 s l)
+
+        divides : (j : ℕ) → j < length l.units → (value f.values (get_or l.units j 0)).at.den ∣ den
+        divides = subst (λ (us : List ℕ). (j : ℕ) → j < length us → (value f.values (get_or us j 0)).at.den ∣ den) (sym through) den_divides
+
+        moved_to : IsMovedTo f.values l (extent s l) end
+        moved_to = record {
+          are = after_values (length f.values) f.values (record { count = refl; each = ok.values.each }) den den_some
+              narrow.denominator l l_ok divides;
+          at = after_along (length units.members) f.values ok.values den den_some narrow.denominator l l_ok divides;
+          moved = λ k inside ne. ap (λ (v : Value). v.touched) (taken_moved (moves l) f.values (end_of 1 s l) k inside (moving l k ne));
+          kept = λ k none. taken_kept (moves l) f.values (end_of 1 s l) k (still l k none);
+        }
+
+        is_end : common_of units end [] ≤ 2 ^ 80 → IsEnd units f prefix l (fraction_of (extent s l)) end
+        is_end room = record {
+          through = through;
+          along = moved_to.at;
+          fewer = after_fractional (length units.members) f.values ok.values den den_some narrow.denominator l l_ok divides;
+          falls = after_falls (length units.members) f.values ok.values den den_some narrow.denominator l l_ok divides;
+          flight = record {
+            are = ok.are;
+            fixed_is = ok.fixed_is;
+            values = after_values (length units.members) f.values ok.values den den_some narrow.denominator l l_ok divides;
+            fresh = taken_fresh (moves l) f.values (end_of 1 s l) (share units) (length units.members) ok.values.count ok.fresh;
+            narrow = room;
+            rows_in = ok.rows_in;
+          };
+        }
+
+  -- ---- so there are steps
+
+  pub owes : Owes (setting_of units) (moved_values units) f (fractional_units f.values)
+  owes = record {
+    some = some_shares;
+    goes = λ w finds narrow. record { first = 1; over = over w finds narrow; ok = line_ok w finds };
+    up = λ w finds narrow. moved_to w finds narrow (line w finds) (line_ok w finds) refl;
+    down = λ w finds narrow. moved_to w finds narrow (turned (line w finds))
+        (turned_line (s w finds) (line w finds) (line_ok w finds)) refl;
+  }
+
+  pub next_is : IsNext (setting_of units) f (fractional_units f.values) (next units f)
+  next_is = next_is_by (setting_of units) (moved_values units) f (fractional_units f.values) owes
+
+  -- ---- the ends of a move
+
+  module _ (m : Move) (k : IsKnown (setting_of units) (moved_values units) f (fractional_units f.values) m) where
+    pub fit : FitsOnLine (setting_of units) f.values k.circuit (line k.circuit k.finds)
+    fit = on_line (setting_of units) (moved_values units) f (fractional_units f.values) owes k.circuit k.finds k.fits
+
+    there : FitsAtEnds (setting_of units) (moved_values units f.values (line k.circuit k.finds))
+        (moved_values units f.values (turned (line k.circuit k.finds)))
+    there = at_ends (setting_of units) (moved_values units) f (fractional_units f.values) owes k.circuit k.finds k.fits
+
+    -- one of them
+    abbrev IsOneEnd : Move → Bool → Type 0
+    IsOneEnd x plus = IsEnd units f (prefix k.circuit k.finds) (chosen_line x plus) (fraction_of (chosen_extent x plus))
+        (moved_values units f.values (chosen_line x plus))
+
+    pub ends : (plus : Bool) → IsOneEnd (next_along (setting_of units) f.values (line k.circuit k.finds)) plus
+    ends true = is_end k.circuit k.finds fit (line k.circuit k.finds) (line_ok k.circuit k.finds) refl there.plus
+    ends false = is_end k.circuit k.finds fit (turned (line k.circuit k.finds))
+        (turned_line (s k.circuit k.finds) (line k.circuit k.finds) (line_ok k.circuit k.finds)) refl there.minus
+
+    pub end_is : (plus : Bool) → IsOneEnd m plus
+    end_is plus = subst (λ (x : Move). IsOneEnd x plus) (sym k.same) (ends plus)
 
 abbrev pub each_step : Stepping
 each_step =

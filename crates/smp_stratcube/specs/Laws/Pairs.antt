@@ -1,7 +1,10 @@
 -- The units of a pivotal step, and what holds where they take over numerators of the common denominator of their stratum.
 use Rattle.std.proofs.Common.{◌≡◌, ◌≢◌, ℕ, zero, suc, ◌<◌, ◌≤◌, nat_eq, Bool, true, false, Option, Some, None, List, [], ◌∷◌, length}
-use Rattle.std.proofs.Common.{get_or, arith, refl, sym, ap, ◌∙◌, subst, inl, inr, le_of_suc-le-suc, suc-le-suc}
-use Rattle.std.proofs.lemmas.Bool.{cases_Bool, cases_eq, eq-eqb, eqb-false, eqb-true, ne_eqb, true≢false}
+use Rattle.std.proofs.Common.{get_or, arith, refl, sym, ◌∙◌, subst, inl, inr, le_of_suc-le-suc, suc-le-suc}
+use Rattle.std.specs.List.{AllByRecursion}
+use Rattle.std.proofs.lemmas.List.Elements.{All-from_recursion}
+use Rattle.std.proofs.lemmas.List.Folds.{Any-from_list_any}
+use Rattle.std.proofs.lemmas.Bool.{cases_Bool, eq-eqb, eqb-false, eqb-true, true≢false}
 use Rattle.std.proofs.lemmas.Nat.Gcd.{dvd_trans}
 use Prim.Native.Nat.{◌∣◌}
 use Rattle.smp_prob.specs.Shares.{Shares}
@@ -109,17 +112,10 @@ module _ (units : Units) (values : List Value) where
 
 -- ---- units among some
 
-abbrev pub EachOf : (ℕ → Type 0) → List ℕ → Type 0
-EachOf P [] = Unit {0}
-EachOf P (k ∷ ks) = P k × EachOf P ks
-
-pub each_of : (P : ℕ → Type 0) (ks : List ℕ) → EachOf P ks → (k : ℕ) → is_one_of ks k ≡ true → P k
-each_of P [] each k h = absurd (true≢false (sym h))
-each_of P (i ∷ ks) each k h =
-    elim (cases_eq i k) [
-      | inl e ↦ subst P e each.0
-      | inr ne ↦ each_of P ks each.1 k (rw (ne_eqb i k ne) at h)
-    ]
+pub each_of : (P : ℕ → Type 0) (ks : List ℕ) → AllByRecursion P ks → (k : ℕ) → is_one_of ks k ≡ true → P k
+each_of P ks each k h =
+    let at = Any-from_list_any (λ unit. nat_eq unit k) ks h in
+    subst P (eqb-true at.1 k at.4) (subst P at.3 (All-from_recursion P ks each at.0 at.1 at.2))
 
 pub first_among : (i : ℕ) (ks : List ℕ) → is_one_of (i ∷ ks) i ≡ true
 first_among i ks = rw (eq-eqb i i refl) refl
@@ -127,16 +123,13 @@ first_among i ks = rw (eq-eqb i i refl) refl
 pub second_among : (i j : ℕ) (ks : List ℕ) → is_one_of (i ∷ j ∷ ks) j ≡ true
 second_among i j ks = elim (cases_Bool (nat_eq i j)) [ inl t ↦ rw t refl | inr f ↦ rw f (first_among j ks) ]
 
-pub not_among : (ks : List ℕ) (k : ℕ) → (is_one_of ks k ≡ true → ⊥) → is_one_of ks k ≡ false
-not_among ks k none = elim (cases_Bool (is_one_of ks k)) [ inl t ↦ absurd (none t) | inr f ↦ f ]
-
 pub among_apart : (ks : List ℕ) (i k : ℕ) → is_one_of ks i ≡ true → is_one_of ks k ≡ false → k ≢ i
 among_apart ks i k h f e = true≢false (sym h ∙ subst (λ (x : ℕ). is_one_of ks x ≡ false) e f)
 
 -- each is fractional, and of one stratum
 module _ (units : Units) (values : List Value) where
   step_each : (ks : List ℕ) → IsStep units values ks
-      → EachOf (λ k. (is_fractional values k ≡ true) × (stratum units k ≡ stratum units (get_or ks 0 0))) ks
+      → AllByRecursion (λ k. (is_fractional values k ≡ true) × (stratum units k ≡ stratum units (get_or ks 0 0))) ks
   step_each [] step = absurd step
   step_each (i ∷ []) step = ((step, refl), tt)
   step_each (i ∷ j ∷ []) step = ((step.first, refl), ((step.second, sym step.stratum_is), tt))
@@ -199,7 +192,7 @@ module _ (units : Units) (values : List Value) (ok : IsPairing units values) (mo
   after_pairing = record {
     are = ok.are;
     values = after_ok;
-    fresh = after_fresh;
+    fresh = taken_fresh moves values t (share units) (length units.members) ok.values.count ok.fresh;
     narrow = λ h.
         omega (
           arith,
@@ -209,9 +202,3 @@ module _ (units : Units) (values : List Value) (ok : IsPairing units values) (mo
               (λ k going here. subst (λ (x : ℕ). (value after k).at.den ∣ stratum_common units values x) here (after_den k going)),
         );
   }
-    where
-      after_fresh : (k : ℕ) → k < length units.members → (value (taken_over moves values t) k).touched ≡ false
-          → (value (taken_over moves values t) k).at ≡ share units k
-      after_fresh k l f =
-          let same = taken_fresh moves values t k (omega (arith, l, ok.values.count)) f in
-          ap (λ (v : Value). v.at) same ∙ ok.fresh k l (ap (λ (v : Value). v.touched) (sym same) ∙ f)

@@ -1,7 +1,7 @@
 -- Values over a common denominator, and values that some units take over from numerators.
 use Rattle.std.proofs.Common.{◌≡◌, ℕ, ◌+◌, ◌*◌, ◌/◌, ◌<◌, ◌≤◌, ◌^◌, Bool, true, false, cond, List, length, get_or, arith, refl, sym, ap}
 use Rattle.std.proofs.Common.{◌∙◌, subst, inl, inr}
-use Rattle.std.proofs.lemmas.Bool.{cases_Bool, cases_lt, true≢false}
+use Rattle.std.proofs.lemmas.Bool.{cases_Bool, cases_lt, cond_both, true≢false}
 use Rattle.std.proofs.lemmas.List.{length-map, get_or-map, get_or_past}
 use Rattle.std.proofs.lemmas.List.FromFn.{get_or-map-range_with_len, length-map-range_with_len}
 use Rattle.std.proofs.Math.Nat.{mul-le-mul_right, mul-div_cancel'}
@@ -14,6 +14,7 @@ use Rattle.smp_frac.specs.Divisors.{greatest_common_divisor}
 use Rattle.smp_prob.specs.Shares.{Shares}
 use Rattle.smp_values.specs.Values.{IsValues, fractional}
 use Rattle.smp_values.specs.Values as shares
+use Rattle.smp_moves.specs.declared.lines.Ratio.{Ratio}
 use Rattle.smp_moves.specs.Ends.{lowest}
 use Rattle.smp_moves.specs.Moves.{fraction_of}
 use Rattle.smp_moves.proofs.LineEnds.{lowest_is}
@@ -49,6 +50,9 @@ lowest_fractional a b p =
     same_tests (fractional (lowest a b).den (lowest a b).num) (fractional b a)
     (same_fractional a b (lowest a b).num (lowest a b).den p (sym is.same))
     (same_fractional (lowest a b).num (lowest a b).den a b is.some is.same)
+
+pub lowest_divides : (a b : ℕ) → (lowest a b).den ∣ b
+lowest_divides a b = quotient_divides b (greatest_common_divisor a b) (IsGcd-greatest_common_divisor a b).1
 
 -- ---- over a common denominator
 
@@ -129,35 +133,33 @@ module _ (moves : ℕ → Bool) (values : List Value) (t : Shares) where
       → value (taken_over moves values t) k ≡ record { at = lowest (get_or t.numer k 0) t.den; touched = true }
   taken_moved k l h = taken_in k l ∙ (rw h refl)
 
+  -- one that isn't there
+  taken_past : (k : ℕ) → length values ≤ k → value (taken_over moves values t) k ≡ value values k
+  taken_past k past =
+      get_or_past (taken_over moves values t) k nothing (omega (arith, past, length_taken)) ∙ sym (get_or_past values k nothing past)
+
   -- a unit that doesn't
   pub taken_kept : (k : ℕ) → moves k ≡ false → value (taken_over moves values t) k ≡ value values k
-  taken_kept k h =
-      elim (cases_lt k (length values)) [
-        | inl l ↦ taken_in k l ∙ (rw h refl)
-        | inr past ↦ get_or_past (taken_over moves values t) k nothing (omega (arith, past, length_taken))
-            ∙ sym (get_or_past values k nothing past)
-      ]
+  taken_kept k h = elim (cases_lt k (length values)) [ inl l ↦ taken_in k l ∙ (rw h refl) | inr past ↦ taken_past k past ]
 
   -- a unit that isn't touched there has the value that it had
-  pub taken_fresh : (k : ℕ) → k < length values → (value (taken_over moves values t) k).touched ≡ false
-      → value (taken_over moves values t) k ≡ value values k
-  taken_fresh k l fresh =
+  pub taken_fresh : (share : ℕ → Ratio) (n : ℕ) → length values ≡ n
+      → ((k : ℕ) → k < n → (value values k).touched ≡ false → (value values k).at ≡ share k)
+      → (k : ℕ) → k < n → (value (taken_over moves values t) k).touched ≡ false → (value (taken_over moves values t) k).at ≡ share k
+  taken_fresh share n count was k l fresh =
       elim (cases_Bool (moves k)) [
-        | inr f ↦ taken_kept k f
-        | inl h ↦ absurd (true≢false (sym (ap (λ (v : Value). v.touched) (taken_moved k l h)) ∙ fresh))
+        | inr f ↦ ap (λ (v : Value). v.at) (taken_kept k f) ∙ was k l (ap (λ (v : Value). v.touched) (sym (taken_kept k f)) ∙ fresh)
+        | inl h ↦ absurd (true≢false (sym (ap (λ (v : Value). v.touched) (taken_moved k (omega (arith, l, count)) h)) ∙ fresh))
       ]
 
   module _ (n : ℕ) (are : AreValues n values) (positive : 1 ≤ t.den) (most : (k : ℕ) → get_or t.numer k 0 ≤ t.den) where
     pub taken_values : AreValues n (taken_over moves values t)
     taken_values = record {
       count = length_taken ∙ are.count;
-      each = λ k. elim (cases_Bool (moves k)) [
-        | inr f ↦ subst IsValue (sym (taken_kept k f)) (are.each k)
-        | inl h ↦ elim (cases_lt k (length values)) [
-          | inl l ↦ subst IsValue (sym (taken_moved k l h)) (lowest_value (get_or t.numer k 0) t.den true positive (most k))
-          | inr past ↦ subst IsValue (sym (get_or_past (taken_over moves values t) k nothing
-              (omega (arith, past, length_taken)) ∙ sym (get_or_past values k nothing past))) (are.each k)
-        ]
+      each = λ k. elim (cases_lt k (length values)) [
+        | inr past ↦ subst IsValue (sym (taken_past k past)) (are.each k)
+        | inl l ↦ subst IsValue (sym (taken_in k l)) (cond_both (moves k) _ _ IsValue
+            (λ h. lowest_value (get_or t.numer k 0) t.den true positive (most k)) (λ f. are.each k))
       ];
     }
 
@@ -175,7 +177,4 @@ module _ (moves : ℕ → Bool) (values : List Value) (t : Shares) where
     -- the denominator of a unit that moves divides that of the numerators
     pub taken_divides : (k : ℕ) → k < length values → moves k ≡ true → (value (taken_over moves values t) k).at.den ∣ t.den
     taken_divides k l h =
-        subst (λ (v : Value). v.at.den ∣ t.den) (sym (taken_moved k l h)) (lowest_divides (get_or t.numer k 0) t.den positive)
-      where
-        lowest_divides : (a b : ℕ) → 1 ≤ b → (lowest a b).den ∣ b
-        lowest_divides a b p = quotient_divides b (greatest_common_divisor a b) (IsGcd-greatest_common_divisor a b).1
+        subst (λ (v : Value). v.at.den ∣ t.den) (sym (taken_moved k l h)) (lowest_divides (get_or t.numer k 0) t.den)

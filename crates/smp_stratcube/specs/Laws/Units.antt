@@ -1,22 +1,22 @@
 -- The fractional units of a state, and the common denominators of their values.
 use Rattle.std.proofs.Common.{◌≡◌, ◌≢◌, ℕ, zero, suc, ◌+◌, ◌<◌, ◌≤◌, nat_eq, Bool, true, false, List}
-use Rattle.std.proofs.Common.{[], ◌∷◌, ◌++◌, map, take, filter, length, get_or, arith, refl, sym, ap, ◌∙◌, subst, inl, inr}
+use Rattle.std.proofs.Common.{[], ◌∷◌, ◌++◌, map, take, filter, length, get_or, arith, refl, sym, ◌∙◌, subst, inl, inr}
 use Rattle.std.proofs.Common.{le_of_suc-le-suc, suc-le-suc, length-take, get_or-take}
-use Rattle.std.specs.List.{AllPairs, range_with_len}
-use Rattle.std.proofs.lemmas.Bool.{cases_Bool, cases_lt, eq-eqb, eqb-true}
-use Rattle.std.proofs.lemmas.List.{get_or_past}
-use Rattle.std.proofs.lemmas.List.Elements.{All-get_or, filter_passes}
+use Rattle.std.specs.List.{AllPairs, Contains, flat_map, range_with_len}
+use Rattle.std.proofs.lemmas.Bool.{both_ways, cases_Bool, cases_lt, eq-eqb, eqb-true}
+use Rattle.std.proofs.lemmas.List.{get_or_default, get_or_past}
+use Rattle.std.proofs.lemmas.List.Elements.{All-contains_itself, All-filter, All-get_or, filter_passes}
 use Rattle.std.proofs.lemmas.List.FromFn.{length-range_with_len, get_or-range_with_len}
 use Rattle.std.proofs.lemmas.List.Kept.{AllPairs-filter}
 use Rattle.std.proofs.lemmas.List.Sums.{length-filter}
 use Rattle.std.proofs.lemmas.Nat.Gcd.{dvd_trans}
 use Prim.Native.Nat.{◌∣◌}
-use Rattle.smp_values.proofs.Fractional.{fractional_is}
 use Rattle.smp_moves.specs.declared.lines.Ratio.{Ratio}
+use Rattle.smp_moves.proofs.Entries.{numbers_apart}
 use Rattle.smp_stratcube.specs.declared.values.Value.{Value}
 use Rattle.smp_stratcube.specs.Units.{Units, IsUnits, first, stratum}
-use Rattle.smp_stratcube.specs.Values.{AreValues, common_of, denominators, fractional_count, fractional_units, is_fractional, nothing}
-use Rattle.smp_stratcube.specs.Values.{stratum_common, touched_units, value}
+use Rattle.smp_stratcube.specs.Values.{AreValues, common_of, fractional_count, fractional_units, is_fractional, nothing, stratum_common}
+use Rattle.smp_stratcube.specs.Values.{value}
 use Rattle.smp_stratcube.specs.States.{Flight, IsFlying}
 use Rattle.smp_moves.proofs.Multiples.{AllSome, AllDivide, multiple_some, multiple_each, some_append, divide_append, some_map}
 use Rattle.smp_moves.proofs.Multiples.{divide_map, map_divide, multiple_most}
@@ -38,21 +38,11 @@ pub filter_is : (P : ℕ → Bool) (xs : List ℕ) (j : ℕ) → j < length (fil
 filter_is P xs j l = All-get_or (λ k. P k ≡ true) (filter P xs) j 0 l (filter_passes P xs)
 
 -- an element that passed stands in the list
-abbrev StandsIn : (ℕ → Bool) → List ℕ → Type 0
-StandsIn P xs = (j : ℕ) → j < length (filter P xs) → (i : ℕ) × (i < length xs) × (get_or xs i 0 ≡ get_or (filter P xs) j 0)
-
-stands_behind : (P : ℕ → Bool) (x : ℕ) (xs : List ℕ) → StandsIn P xs → (j : ℕ) → j < length (x ∷ filter P xs)
-    → (i : ℕ) × (i < length (x ∷ xs)) × (get_or (x ∷ xs) i 0 ≡ get_or (x ∷ filter P xs) j 0)
-stands_behind P x xs rest zero l = (0, omega arith, refl)
-stands_behind P x xs rest (suc j) l = (let r = rest j (le_of_suc-le-suc l) in (suc r.0, suc-le-suc r.1, r.2))
-
-pub filter_from : (P : ℕ → Bool) (xs : List ℕ) → StandsIn P xs
-filter_from P [] j l = absurd (omega (arith, l))
-filter_from P (x ∷ xs) j l =
-    elim (cases_Bool (P x)) [
-      | inr f ↦ (let r = filter_from P xs j (rw f at l) in rw f (suc r.0, suc-le-suc r.1, r.2))
-      | inl t ↦ rw t (stands_behind P x xs (filter_from P xs) j (rw t at l))
-    ]
+pub filter_from : (P : ℕ → Bool) (xs : List ℕ) (j : ℕ) → j < length (filter P xs) → (i : ℕ) × (i < length xs)
+    × (get_or xs i 0 ≡ get_or (filter P xs) j 0)
+filter_from P xs j l =
+    let at = All-get_or (Contains xs) (filter P xs) j 0 l (All-filter P (Contains xs) xs (All-contains_itself xs)) in
+    (at.0, at.1, get_or_default xs at.0 0 (get_or (filter P xs) j 0) at.1 ∙ at.2)
 
 -- ---- the fractional units
 
@@ -64,9 +54,7 @@ module _ (values : List Value) where
   fractional_in k h =
       elim (cases_lt k (length values)) [
         | inl l ↦ l
-        | inr past ↦ absurd (let none : value values k ≡ nothing = get_or_past values k nothing past in
-            let r = fractional_is (value values k).at.den (value values k).at.num h in
-            let z : (value values k).at.num ≡ 0 = ap (λ (v : Value). v.at.num) none in omega (arith, r.0, z))
+        | inr past ↦ absurd (both_ways (is_fractional values k) (rw (get_or_past values k nothing past) refl) h)
       ]
 
   pub order_going : (j : ℕ) → j < length (fractional_units values)
@@ -75,12 +63,6 @@ module _ (values : List Value) where
 
   pub order_apart : AllPairs (λ k l. k ≢ l) (fractional_units values)
   order_apart = AllPairs-filter (λ k l. k ≢ l) (is_fractional values) (range_with_len 0 (length values)) (numbers_apart (length values))
-    where
-      numbers_apart : (n : ℕ) → AllPairs (λ k l. k ≢ l) (range_with_len 0 n)
-      numbers_apart n i j d l m =
-          let b : j < n = omega (arith, m, length-range_with_len 0 n) in
-          rw (get_or-range_with_len 0 n i d (omega (arith, l, b)), get_or-range_with_len 0 n j d b)
-          (λ e. (let same : 0 + i ≡ 0 + j = e in omega (arith, l, same)))
 
   -- each fractional unit stands there
   pub order_place : (k : ℕ) → is_fractional values k ≡ true → (j : ℕ) × (j < length (fractional_units values))
@@ -94,26 +76,21 @@ module _ (values : List Value) where
       (r.0, r.1, r.2 ∙ at)
 
   -- its first units
-  pub front_at : (n j : ℕ) → j < length (take n (fractional_units values))
-      → get_or (take n (fractional_units values)) j 0 ≡ get_or (fractional_units values) j 0
-  front_at n j l = get_or-take n (fractional_units values) j 0 (omega (arith, l, length-take n (fractional_units values)))
-
   pub front_going : (n j : ℕ) → j < length (take n (fractional_units values))
       → is_fractional values (get_or (take n (fractional_units values)) j 0) ≡ true
-  front_going n j l = rw (front_at n j l) (order_going j (omega (arith, l, length-take n (fractional_units values))))
-
-  pub front_apart : (n : ℕ) → AllPairs (λ k l. k ≢ l) (take n (fractional_units values))
-  front_apart n i j d l m =
-      let b : (j < n) × (j < length (fractional_units values)) = (
-        omega (arith, m, length-take n (fractional_units values)),
-        omega (arith, m, length-take n (fractional_units values)),
-      ) in
-      rw (
-        get_or-take n (fractional_units values) i d (omega (arith, l, b.0)),
-        get_or-take n (fractional_units values) j d b.0,
-      ) (order_apart i j d l b.1)
+  front_going n j l =
+      let m = length-take n (fractional_units values) in
+      rw (get_or-take n (fractional_units values) j 0 (omega (arith, l, m))) (order_going j (omega (arith, l, m)))
 
 -- ---- common denominators
+
+-- the fractional units that moves have changed
+abbrev pub touched_units : List Value → List ℕ
+touched_units values = filter (λ k. (value values k).touched) (fractional_units values)
+
+-- of each of these units the common denominator of its stratum, and the denominator of its value
+abbrev pub denominators : Units → List Value → List ℕ → List ℕ
+denominators units values = flat_map (λ k. first units k ∷ (value values k).at.den ∷ [])
 
 module _ (units : Units) (are : IsUnits units) (n : ℕ) (values : List Value) (ok : AreValues n values) where
   pub denominators_some : (ks : List ℕ) → AllSome (denominators units values ks)
@@ -125,16 +102,6 @@ module _ (units : Units) (are : IsUnits units) (n : ℕ) (values : List Value) (
   denominators_at [] m all j l = absurd (omega (arith, l))
   denominators_at (k ∷ ks) m all zero l = (all.0, all.1.0)
   denominators_at (k ∷ ks) m all (suc j) l = denominators_at ks m all.1.1 j (le_of_suc-le-suc l)
-
-  -- a touched unit that is fractional
-  touched_at : (m k : ℕ) → AllDivide (denominators units values (touched_units values)) m
-      → is_fractional values k ≡ true → (value values k).touched ≡ true → (first units k ∣ m)
-      × ((value values k).at.den ∣ m)
-  touched_at m k all opened touched =
-      let at = order_place values k opened in
-      let r = filter_place (λ k. (value values k).touched) (fractional_units values) at.0 at.1 (rw at.2 touched) in
-      let d = denominators_at (touched_units values) m all r.0 r.1 in
-      subst (λ (x : ℕ). (first units x ∣ m) × ((value values x).at.den ∣ m)) (r.2 ∙ at.2) d
 
   -- ---- of the state and a line
 
@@ -155,9 +122,15 @@ module _ (units : Units) (are : IsUnits units) (n : ℕ) (values : List Value) (
       divide_append dens (map (first units) prefix) (common_of units values prefix)
       (multiple_each (dens ++ map (first units) prefix) (each_some prefix))
 
+  -- a touched unit that is fractional
   pub common_divides : (prefix : List ℕ) (k : ℕ) → is_fractional values k ≡ true → (value values k).touched ≡ true
       → (first units k ∣ common_of units values prefix) × ((value values k).at.den ∣ common_of units values prefix)
-  common_divides prefix k = touched_at (common_of units values prefix) k (each_divides prefix).0
+  common_divides prefix k opened touched =
+      let m : ℕ = common_of units values prefix in
+      let at = order_place values k opened in
+      let r = filter_place (λ k. (value values k).touched) (fractional_units values) at.0 at.1 (rw at.2 touched) in
+      subst (λ (x : ℕ). (first units x ∣ m) × ((value values x).at.den ∣ m)) (r.2 ∙ at.2)
+      (denominators_at (touched_units values) m (each_divides prefix).0 r.0 r.1)
 
   pub line_divides : (prefix : List ℕ) (j : ℕ) → j < length prefix → is_fractional values (get_or prefix j 0) ≡ true
       → ((value values (get_or prefix j 0)).touched ≡ false
