@@ -9,12 +9,10 @@ ghost use Rattle.smp_flight.specs.{Requests.{AreValues, units_of}, States.{Units
 ghost use Rattle.smp_flight.specs.{Narrow.{IsNarrow}, Cube.{cube_of}, CubeMethod.{method_of}};
 
 use crate::cube_state::CubeState;
-use crate::{Shape, is_narrow, look, start};
+use crate::{Landing, Shape, is_narrow, look};
 use smp_frac::{NoMemory, Numbers};
-use smp_moves::Phase;
 use smp_prob::Request;
 use smp_split::{Kind, Splitting};
-use smp_values::{PivotalSteps, Values};
 use std::alloc::Global;
 use std::marker::Model;
 
@@ -60,15 +58,9 @@ impl Cube {
         ensures starts { IfOk result (Starts (method_of self.now)) }
         ensures balanced { IfOk result (IsBalanced (cube_of self.now)) }
     {
-        let mut flight = start(alloc, &self.shape)?;
-        look(&self.shape, &mut flight);
-        Ok(CubeState {
-            flight,
-            phase: Phase::Flying,
-            left: 0,
-            room: Values::with_room(alloc, self.units)?,
-            steps: PivotalSteps::from_values(Values::with_room(alloc, 0)?),
-        })
+        let mut landing = Landing::start(alloc, &self.shape)?;
+        look(&self.shape, &mut landing.flight);
+        Ok(CubeState { landing })
     }
 
     /// Whether the numbers of the units are so small that no step of a selection is wide, whatever is drawn: exactly where some bounds of
@@ -84,7 +76,7 @@ impl Cube {
     pub fn left(&self, state: &CubeState) -> u32
         ensures { result ≡ left_in state.now }
     {
-        state.left
+        state.landing.left
     }
 }
 
@@ -98,7 +90,7 @@ impl Splitting for Cube {
     }
 
     fn done(&self, state: &CubeState) -> bool {
-        state.is_done()
+        state.landing.is_done()
     }
 
     fn kind(&self, state: &CubeState) -> Kind {
@@ -114,6 +106,6 @@ impl Splitting for Cube {
     }
 
     fn selected(&self, state: &CubeState, unit: usize) -> bool {
-        state.is_one(unit)
+        state.landing.is_one(unit)
     }
 }

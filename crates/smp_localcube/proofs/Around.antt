@@ -6,14 +6,15 @@ use Rattle.smp_near.specs.Nearest.{LivingPoints, neighbours}
 use Rattle.smp_prob.specs.Shares.{Shares}
 use Rattle.smp_values.specs.Values.{fractional_units, is_fractional}
 use Rattle.smp_values.proofs.Units.{fractional_within}
-use Rattle.smp_flight.specs.{Answers.{AreSearched}, Kept.Windows.{is_in}, Selections.{IsWholeOrder}, States.{IsFlight, Tracked, Units}}
+use Rattle.smp_flight.specs.{Answers.{AreSearched}, Kept.Windows.{is_in}, Selections.{IsWholeOrder}, States.{Tracked, Units}}
 use Rattle.smp_moves.specs.Moves.{IsOrder}
-use Rattle.smp_flight.specs.{declared.steps.Next.{Next as Answer}, Steps.{next_on}, Laws.Firsts.{fractional_in, from_each, in_front}}
+use Rattle.smp_flight.specs.{Steps.{next_on}, Laws.Firsts.{fractional_in, from_each, in_front}}
 use Rattle.smp_moves.proofs.{Filtered.{filter_twice}, Entries.{order_front}}
 use Rattle.smp_flight.specs.{Laws.NextProperties.{next_on_front}, Laws.WholeOrders.{in_order_going, whole_length}}
-use Rattle.smp_localcube.specs.{Local.{IsCarried, front_of, is_one_of, order_around, untouched}, Kept.States.{IsSearched, touched_in}}
-use Rattle.smp_localcube.specs.{Laws.Orders.{filter_again, whole as whole_order}, Laws.Splits.{HasHead}}
+use Rattle.smp_localcube.specs.{Local.{IsCarried, front_of, is_one_of, order_around, untouched}, Kept.States.{touched_in}}
+use Rattle.smp_localcube.specs.Laws.Orders.{HasHead, filter_again, whole}
 use Rattle.smp_flight.proofs.Free.{in_filter}
+use Rattle.smp_localcube.proofs.Rising.{in_all}
 
 module _ (f : Tracked) (ok : IsOrder f.flight.values f.window) where
   -- the touched units are the window in rising order
@@ -38,7 +39,7 @@ module _ (f : Tracked) (window_ok : IsOrder f.flight.values f.window) (coords : 
   around = order_around coords f.flight.values (touched_in f) head
 
   pub is_whole : IsWholeOrder f.flight.values (order_around coords f.flight.values (touched_in f) head)
-  is_whole = whole_order coords f.flight.values (touched_in f) head (touched_again f) has.open_at has.is_head
+  is_whole = whole coords f.flight.values (touched_in f) head has
 
   -- each touched unit is among the first
   touched_first : (touched others : List ℕ) (most k : ℕ) → length touched ≤ most → is_in touched k ≡ true → is_in (take most (front_of touched head ++ others)) k ≡ true
@@ -62,14 +63,11 @@ pub same_points : (points : LivingPoints) (s : Shares) (touched : List ℕ) → 
 same_points points s touched living = ap (λ alive. record { coords = points.coords; living = alive }) living
 
 -- the units of a search of which the first ones are the touched ones, and the others follow from the points
-pub searched_are : (f : Tracked) (points : LivingPoints) (head : ℕ) {touched front order : List ℕ} {rows : ℕ} → points.living ≡ (untouched points.coords f.flight.values (touched_in f)).living → touched ≡ touched_in f →
-    front ≡ front_of touched head → rows ≡ f.flight.rows → order ≡ take (rows + 1) (front ++ neighbours points head) → order ≡ take (f.flight.rows + 1) (order_around points.coords f.flight.values (touched_in f) head)
-searched_are f points head {touched} {front} {order} {rows} living same is count are =
-    are
+pub searched_are : (f : Tracked) (points : LivingPoints) (head : ℕ) {touched front order : List ℕ} {rows number : ℕ} → points.living ≡ (untouched points.coords f.flight.values (touched_in f)).living → touched ≡ touched_in f →
+    front ≡ front_of touched head → rows ≡ f.flight.rows → length front ≡ number → number ≤ rows + 1 → order ≡ front ++ take (rows + 1 - number) (neighbours points head) →
+    order ≡ take (f.flight.rows + 1) (order_around points.coords f.flight.values (touched_in f) head)
+searched_are f points head {touched} {front} {order} {rows} {number} living same is count size few are =
+    are ∙ in_all front (neighbours points head) number (rows + 1) size few
     ∙ ap (λ n. take (n + 1) (front ++ neighbours points head)) count
     ∙ ap (λ (us : List ℕ). take (f.flight.rows + 1) (us ++ neighbours points head)) (is ∙ ap (λ t. front_of t head) same)
     ∙ ap (λ (p : LivingPoints). take (f.flight.rows + 1) (front_of (touched_in f) head ++ neighbours p head)) (same_points points f.flight.values (touched_in f) living)
-
--- what is kept of a flight of these units is by them
-pub searched_by : (units : Units) (f : Tracked) (coords : List (List ℤ)) (chosen : Option ℕ) (now found : Option Answer) → IsFlight units f.flight → now ≡ found → IsSearched f.flight.fixed f coords chosen found → IsSearched units f coords chosen now
-searched_by units f coords chosen now found ok same is = subst (IsSearched units f coords chosen) (sym same) (subst (λ (u : Units). IsSearched u f coords chosen found) ok.fixed_is is)

@@ -15,7 +15,7 @@ use Rattle.smp_flight.specs.{Kept.Windows.{is_in}, Selections.{Balancing, IsBala
 use Rattle.smp_flight.specs.{Steps.{chosen, next_on}, Laws.ByOrder.{knows}, Laws.Firsts.{changed_in, fractional_in}}
 use Rattle.smp_flight.proofs.{NeverWide.{IsNextFront, KeepsFront}, Free.{out_filter, in_filter}}
 use Rattle.smp_localcube.specs.Local.{AreCarried, IsCarried, IsLocal, Local, after, head_of, is_one_of, local_of, next_from, order_around, order_from, kind_from, parts_from, parts_in_flight, untouched}
-use Rattle.smp_localcube.specs.Laws.Splits.{next_around, order_whole}
+use Rattle.smp_localcube.specs.{Kept.States.{next_around}, Laws.Splits.{order_whole}}
 
 abbrev kind_of : Option Next → Kind
 kind_of next = unwrap_or (option_map flight_kind next) kind.Choose

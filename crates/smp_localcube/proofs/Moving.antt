@@ -1,37 +1,21 @@
 -- What the code may rest on before a move.
-use Rattle.std.proofs.Common.{◌≡◌, ℕ, Bool, true, false, not, nat_eq, ◌||◌, ℤ, pos, neg_ℤ, List, Option, Some, None, length, arith, refl, sym, ap, ◌∙◌, subst, inl, inr}
-use Rattle.std.specs.{Int.RustNames.{unsigned_abs}, List.{filter}, Prelude.{option_map}}
+use Rattle.std.proofs.Common.{◌≡◌, ℕ, Bool, true, false, not, nat_eq, ◌||◌, ℤ, pos, neg_ℤ, List, length, arith, refl, sym, ap, ◌∙◌, subst, inl, inr}
+use Rattle.std.specs.{Int.RustNames.{unsigned_abs}, List.{filter}}
 use Rattle.std.proofs.{Math.Bool.{and-false, and-true, or-false}, lemmas.List.{ext_get_or}, lemmas.List.FromFn.{length-map-range_with_len}}
 use Rattle.std.proofs.lemmas.Bool.{and_from, both_ways, cases_Bool, eqb-true, ne_eqb, not-false, or_left, or_right}
 use Rattle.smp_near.specs.Nearest.{LivingPoints, is_living}
 use Rattle.smp_prob.specs.Shares.{Shares}
 use Rattle.smp_values.specs.Values.{fractional_units, is_fractional}
 use Rattle.smp_flight.specs.{States.{Flight, IsFlight, Tracked, Units}, Steps.{chosen, end_at_is, next_on}, Answers.{IsNextWindow}}
-use Rattle.smp_moves.specs.Moves.{Next, chosen_line, move, IsOrder, Line, Move, entry_of}
+use Rattle.smp_moves.specs.Moves.{chosen_line, move, IsOrder, Line, Move, entry_of}
 use Rattle.smp_flight.specs.{Laws.Firsts.{contains_in, fractional_in, in_contains}, Laws.WholeOrders.{in_order_going}}
 use Rattle.smp_moves.proofs.{Entries.{frame_order}, Evens.{entry_of_turned}, Moved.{same_still, same_tests}}
 use Rattle.smp_flight.specs.{Laws.ByOrder.{ends_at}, Laws.Nexts.{flight_over}}
 use Rattle.smp_localcube.proofs.{Touch.{zero_size}, Around.{same_points}}
 use Rattle.smp_localcube.specs.{Kept.States.{AreTouched, IsReady, MayTouch, is_changed, touched_in, weights_of}, Kept.Orders.{is_untouched}}
 use Rattle.smp_localcube.specs.{Local.{is_one_of, untouched}, Laws.Orders.{filter_same, untouched_at}}
+use Rattle.smp_flight.specs.Landings.{HasRoom}
 use Rattle.smp_flight.proofs.Free.{out_filter, in_filter}
-
--- the head of a step that was found
-pub record HeadOf (f : ℕ → Next) (o : Option ℕ) (a : Next) : Type 0 where
-  pub head : ℕ
-  pub is : o ≡ Some head
-  pub gives : f head ≡ a
-
-pub head_found : (f : ℕ → Next) (o : Option ℕ) (a : Next) → Some a ≡ option_map f o → HeadOf f o a
-head_found f None a e = absurd (cc)
-head_found f (Some k) a e = record { head = k; is = refl; gives = sym (same_next a (f k) e) }
-  where
-    from : Option Next → Next → Next
-    from None d = d
-    from (Some x) d = x
-
-    same_next : (a b : Next) → Some a ≡ Some b → a ≡ b
-    same_next a b e = ap (λ o. from o a) e
 
 module _ (f : Tracked) (room : Shares) (points : LivingPoints) (weights : List ℕ) (ready : IsReady f room points weights) where
   living_is : (k : ℕ) → is_living points k ≡ is_untouched f.flight.values (touched_in f) k
@@ -54,9 +38,28 @@ module _ (f : Tracked) (room : Shares) (points : LivingPoints) (weights : List �
     ]);
   }
 
--- ---- the touched units after a move
+-- ---- a move
 
-module _ (before after : Tracked) (line : Line) (next : IsNextWindow before line after) (fewer : (k : ℕ) → is_fractional after.flight.values k ≡ true → is_fractional before.flight.values k ≡ true) where
+module _ (units : Units) (before after : Tracked) (left : ℕ) (order : List ℕ) (ok : IsFlight units before.flight) (ordered : IsOrder before.flight.values order) (m : Move) (is : next_on units order before.flight ≡ move m) (plus : Bool)
+    (there : after.flight ≡ chosen units before.flight m plus) (next : IsNextWindow before m.direction after) where
+  abbrev line : Line
+  line = m.direction
+
+  fewer : (k : ℕ) → is_fractional after.flight.values k ≡ true → is_fractional before.flight.values k ≡ true
+  fewer k h = (ends_at units before.flight left order ok ordered m is plus).fewer k (subst (λ (t : Flight). is_fractional t.values k ≡ true) there h)
+
+  line_still : (plus : Bool) (k : ℕ) → entry_of line k ≡ pos 0 → entry_of (chosen_line m plus) k ≡ pos 0
+  line_still true k zero = zero
+  line_still false k zero = entry_of_turned m.direction k ∙ ap neg_ℤ zero
+
+  still : (k : ℕ) → entry_of line k ≡ pos 0 → is_fractional after.flight.values k ≡ is_fractional before.flight.values k
+  still k zero =
+      ap (λ (t : Flight). is_fractional t.values k) there
+      ∙ subst (λ (t : Shares). is_fractional t k ≡ is_fractional before.flight.values k) (sym (end_at_is units before.flight.values (chosen_line m plus)))
+      (same_still units.requested.den before.flight.values (flight_over units before.flight ok) (chosen_line m plus) (ends_at units before.flight left order ok ordered m is plus).line_ok k (line_still plus k zero))
+
+  -- ---- the touched units after it
+
   -- a fractional unit is in the new window where it was touched or is changed
   touched_from : (k : ℕ) → is_fractional after.flight.values k ≡ true → is_one_of after.window k ≡ true → (is_one_of (touched_in before) k || is_changed line k) ≡ true
   touched_from k e h =
@@ -77,8 +80,8 @@ module _ (before after : Tracked) (line : Line) (next : IsNextWindow before line
         ],
       ))
 
-  pub touched_moved : touched_in after ≡ filter (λ k. is_one_of (touched_in before) k || is_changed line k) (fractional_units after.flight.values)
-  touched_moved =
+  pub flown_touched : touched_in after ≡ filter (λ k. is_one_of (touched_in before) k || is_changed line k) (fractional_units after.flight.values)
+  flown_touched =
       filter_same (is_one_of after.window) (λ k. is_one_of (touched_in before) k || is_changed line k) (fractional_units after.flight.values)
       (λ k h.
       let e = in_order_going after.flight.values (fractional_units after.flight.values) (frame_order after.flight.values) k h in
@@ -86,7 +89,7 @@ module _ (before after : Tracked) (line : Line) (next : IsNextWindow before line
 
   -- ---- the living points after it
 
-  module _ (still : (k : ℕ) → entry_of line k ≡ pos 0 → is_fractional after.flight.values k ≡ is_fractional before.flight.values k) (room : Shares) (points now : LivingPoints) (weights : List ℕ) (ready : IsReady before room points weights) (t : AreTouched points line now) where
+  module _ (room : Shares) (points now : LivingPoints) (weights : List ℕ) (ready : IsReady before room points weights) (t : AreTouched points line now) where
     in_touched : (k : ℕ) → is_fractional after.flight.values k ≡ true → (is_one_of (touched_in before) k || is_changed line k) ≡ true → is_one_of (touched_in after) k ≡ true
     in_touched k e h = in_filter (is_one_of after.window) (fractional_units after.flight.values) k (fractional_in after.flight.values k e) (touched_to k e h)
 
@@ -121,10 +124,9 @@ module _ (before after : Tracked) (line : Line) (next : IsNextWindow before line
           | inr e ↦ rw e (and-true (is_living points k)) ∙ living_is before room points weights ready k ∙ sym (same_one k e)
         ]
 
-    pub ready_after : length after.flight.values.numer ≡ length before.flight.values.numer → (new : List ℕ) → new ≡ weights_of now.living → IsReady after room now new
-    ready_after same new weighed = record {
-      fits = ready.fits ∙ sym same;
-      few = omega (arith, ready.few, same);
+    pub flown_ready : length after.flight.values.numer ≡ length before.flight.values.numer → (new : List ℕ) → new ≡ weights_of now.living → IsReady after room now new
+    flown_ready same new weighed = record {
+      room = subst (λ n. HasRoom n room) (sym same) ready.room;
       placed = ap length t.coords ∙ ready.placed ∙ sym same;
       living =
           ext_get_or false now.living (untouched now.coords after.flight.values (touched_in after)).living
@@ -132,32 +134,3 @@ module _ (before after : Tracked) (line : Line) (next : IsNextWindow before line
           (λ k _. living_after k ∙ sym (untouched_at now.coords after.flight.values (touched_in after) k));
       weighed = weighed;
     }
-
--- ---- a move
-
-module _ (units : Units) (f : Flight) (left : ℕ) (order : List ℕ) (ok : IsFlight units f) (ordered : IsOrder f.values order) (m : Move) (is : next_on units order f ≡ move m) (plus : Bool) where
-  line_still : (plus : Bool) (k : ℕ) → entry_of m.direction k ≡ pos 0 → entry_of (chosen_line m plus) k ≡ pos 0
-  line_still true k zero = zero
-  line_still false k zero = entry_of_turned m.direction k ∙ ap neg_ℤ zero
-
-  pub move_still : (k : ℕ) → entry_of m.direction k ≡ pos 0 → is_fractional (chosen units f m plus).values k ≡ is_fractional f.values k
-  move_still k zero =
-      subst (λ (t : Shares). is_fractional t k ≡ is_fractional f.values k) (sym (end_at_is units f.values (chosen_line m plus)))
-      (same_still units.requested.den f.values (flight_over units f ok) (chosen_line m plus) (ends_at units f left order ok ordered m is plus).line_ok k (line_still plus k zero))
-
-  pub move_fewer : (k : ℕ) → is_fractional (chosen units f m plus).values k ≡ true → is_fractional f.values k ≡ true
-  move_fewer k h = (ends_at units f left order ok ordered m is plus).fewer k h
-
--- what a flight carries on after a move
-module _ (units : Units) (before after : Tracked) (left : ℕ) (order : List ℕ) (ok : IsFlight units before.flight) (ordered : IsOrder before.flight.values order) (m : Move) (is : next_on units order before.flight ≡ move m) (plus : Bool) (there : after.flight ≡ chosen units before.flight m plus) (next : IsNextWindow before m.direction after) where
-  flown_fewer : (k : ℕ) → is_fractional after.flight.values k ≡ true → is_fractional before.flight.values k ≡ true
-  flown_fewer k h = move_fewer units before.flight left order ok ordered m is plus k (subst (λ (t : Flight). is_fractional t.values k ≡ true) there h)
-
-  flown_still : (k : ℕ) → entry_of m.direction k ≡ pos 0 → is_fractional after.flight.values k ≡ is_fractional before.flight.values k
-  flown_still k zero = ap (λ (t : Flight). is_fractional t.values k) there ∙ move_still units before.flight left order ok ordered m is plus k zero
-
-  pub flown_touched : touched_in after ≡ filter (λ k. is_one_of (touched_in before) k || is_changed m.direction k) (fractional_units after.flight.values)
-  flown_touched = touched_moved before after m.direction next flown_fewer
-
-  pub flown_ready : (room : Shares) (points now : LivingPoints) (weights new : List ℕ) → IsReady before room points weights → AreTouched points m.direction now → length after.flight.values.numer ≡ length before.flight.values.numer → new ≡ weights_of now.living → IsReady after room now new
-  flown_ready room points now weights new ready touched same weighed = ready_after before after m.direction next flown_fewer flown_still room points now weights ready touched same new weighed

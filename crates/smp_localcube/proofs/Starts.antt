@@ -5,14 +5,14 @@ use Rattle.std.proofs.{lemmas.Bool.{and_from}, lemmas.List.{ext_get_or, get_or-r
 use Rattle.std.proofs.lemmas.List.FromFn.{get_or-map-range_with_len, length-map-range_with_len}
 use Rattle.smp_near.specs.Nearest.{all_living}
 use Rattle.smp_frac.proofs.Arithmetic.{same_refl}
-use Rattle.smp_prob.specs.{declared.requests.Request.{Request}, Requests.{IsRequest}, Shares.{shares_of}}
+use Rattle.smp_prob.specs.{declared.requests.Request.{Request}, Requests.{IsRequest}, Shares.{Shares, shares_of}}
 use Rattle.smp_prob.proofs.Fractions.{length-numerators}
 use Rattle.smp_split.specs.Methods.{Starts}
 use Rattle.smp_split.proofs.Methods.{starts}
 use Rattle.smp_values.specs.{Starts.{IsRequested}, Values.{fractional_units, is_fractional, value_at}}
 use Rattle.smp_values.proofs.Requests.{requested_values, shares_fractional}
 use Rattle.smp_flight.specs.States as flights
-use Rattle.smp_flight.specs.{States.{IsFlight, Units}, Requests.{units_of}, Landings.{IsBalanced}}
+use Rattle.smp_flight.specs.{States.{IsFlight, Units}, Requests.{units_of}, Landings.{HasRoom, IsBalanced}}
 use Rattle.smp_flight.proofs.{Owed.{selection_balanced}, WholeSums.{leaves_count}}
 use Rattle.smp_localcube.proofs.Fronts.{IsFront, keeps_front}
 use Rattle.smp_localcube.specs.{Local.{IsLocal, local_of, local_tree, untouched}, Kept.Orders.{is_untouched}, Laws.Orders.{filter_none}}
@@ -66,10 +66,9 @@ module _ (dimensions : ℕ) (units : Units) (coords : List (List ℤ)) (count : 
       get_or-replicate (length coords) k true false here
       ∙ sym (get_or-map-range_with_len (is_untouched units.requested (touched_in (flights.tracked_start units))) 0 (length units.requested.numer) k k false within (omega arith) ∙ untouched_first k within))
 
-  pub first_ready : IsReady (flights.tracked_start units) (record { numer = replicate {A = ℕ} count 0; den = 1 }) (all_living coords) (replicate {A = ℕ} count 1)
-  first_ready = record {
-    fits = omega (arith, length-replicate {A = ℕ} count 0, placed.count_is, same_count);
-    few = omega (arith, is_flight.are.few, same_count);
+  pub first_ready : (room : Shares) → HasRoom (length units.requested.numer) room → IsReady (flights.tracked_start units) room (all_living coords) (replicate {A = ℕ} count 1)
+  first_ready room fits = record {
+    room = fits;
     placed = omega (arith, placed.placed, same_count);
     living = all_living_first;
     weighed = ones_of count ∙ ap (λ n. weights_of (replicate n true)) (placed.count_is ∙ sym placed.placed);

@@ -1,22 +1,20 @@
 -- The units that a line changes are taken out of the living points.
-use Rattle.std.proofs.Common.{◌≡◌, ◌≢◌, ℕ, zero, suc, ◌+◌, ◌<◌, ◌≤◌, Bool, true, false, not, nat_eq, ◌&&◌, cond, if◌then◌else◌, ℤ, pos, List, [], ◌∷◌, length, map, get_or, set, take, arith, refl, sym, ap, ◌∙◌, subst, inl, inr, suc-le-suc, Option, Some, None, length-take, length-set, get_or-take}
-use Rattle.std.specs.{Prelude.{option_map}, List.{range_with_len, sum, sum_by}, Int.RustNames.{unsigned_abs}}
+use Rattle.std.proofs.Common.{◌≡◌, ◌≢◌, ℕ, zero, suc, ◌+◌, ◌<◌, ◌≤◌, Bool, true, false, not, nat_eq, ◌&&◌, cond, if◌then◌else◌, ℤ, pos, List, [], ◌∷◌, length, map, get_or, set, take, arith, refl, sym, ap, ◌∙◌, subst, inl, inr, suc-le-suc, length-take, length-set, get_or-take}
+use Rattle.std.specs.{List.{range_with_len, sum, sum_by}, Int.RustNames.{unsigned_abs}}
 use Rattle.std.proofs.{lemmas.List.Sums.{sum-map, sum_by-cons}, Math.Bool.{and-false}, lemmas.Int.{ints}}
 use Rattle.std.proofs.lemmas.Bool.{and_from, cases_Bool, cases_eq, eq-eqb, ne_eqb}
 use Rattle.std.proofs.lemmas.List.{get_or-set_other, get_or-set_same, get_or_default, map-set}
 use Rattle.smp_kernel.specs.Vectors.{entry}
 use Rattle.smp_near.specs.Nearest.{LivingPoints, is_living, removed}
 use Rattle.smp_prob.specs.Shares.{Shares}
-use Rattle.smp_split.specs.{Trees.{Part, weight_sum}, Laws.Parts.{weight_sum-equal}}
 use Rattle.smp_split.proofs.Counts.{count_by-indices, sum_by-map}
-use Rattle.smp_values.specs.Values.{fractional, fractional_at, fractional_count, is_fractional}
-use Rattle.smp_moves.specs.{Cubes.{flying}, Moves.{Next, IsLine, entry_at, entry_of}, Answers.{line_of}}
-use Rattle.smp_flight.specs.States.{Tracked, Units}
+use Rattle.smp_values.specs.Values.{fractional, fractional_count, is_fractional}
+use Rattle.smp_moves.specs.{Moves.{IsLine, entry_at, entry_of}, Answers.{line_of}}
 use Rattle.smp_moves.proofs.Entries.{entry_at_none, order_going}
 use Rattle.smp_moves.specs.declared.lines.Line.{Line as LineOfPlaces}
 use Rattle.smp_values.proofs.Units.{fractional_within}
-use Rattle.smp_localcube.specs.Kept.States.{AreTouched, IsReady, MayTouch, is_changed, line_to, step_around, touched_in, weights_of}
-use Rattle.smp_localcube.specs.{Kept.Orders.{is_untouched}, Local.{Local, head_of, is_one_of, parts_from, parts_in_flight, untouched}}
+use Rattle.smp_localcube.specs.Kept.States.{AreTouched, MayTouch, is_changed, line_to, weights_of}
+use Rattle.smp_localcube.specs.{Kept.Orders.{is_untouched}, Local.{is_one_of, untouched}}
 
 -- one place more of a line whose units are different
 pub entry_at_more : (us : List ℕ) (es : List ℤ) (n k : ℕ) → n < length us → n < length es → ((j : ℕ) → j < n → get_or us j 0 ≢ get_or us n 0) →
@@ -59,37 +57,12 @@ abbrev weight_of : Bool → ℕ
 weight_of alive = if alive then 1 else 0
 
 -- where no unit is touched, the weights add up to the number of the fractional units
-untouched_total : (coords : List (List ℤ)) (s : Shares) → sum (weights_of (untouched coords s []).living) ≡ fractional_count s
+pub untouched_total : (coords : List (List ℤ)) (s : Shares) → sum (weights_of (untouched coords s []).living) ≡ fractional_count s
 untouched_total coords s =
     sum-map weight_of (map (is_untouched s []) (range_with_len 0 (length s.numer)))
     ∙ sum_by-map weight_of (is_untouched s []) (range_with_len 0 (length s.numer))
     ∙ sum_by_same (λ k. weight_of (is_untouched s [] k)) (λ k. cond (is_fractional s k) 1 0) (λ k. elim (cases_Bool (is_fractional s k)) [ inl e ↦ rw e refl | inr e ↦ rw e refl ]) (range_with_len 0 (length s.numer))
     ∙ count_by-indices (fractional s.den) s.numer 0 (length s.numer) refl
-
-pub none_head : (f : ℕ → Next) (o : Option ℕ) → None ≡ option_map f o → o ≡ None
-none_head f None e = refl
-none_head f (Some k) e = absurd (cc)
-
-pub none_touched : (touched : List ℕ) (chosen : Option ℕ) → head_of touched chosen ≡ None → touched ≡ []
-none_touched [] chosen e = refl
-none_touched (u ∷ touched) chosen e = absurd (cc)
-
-module _ (units : Units) (f : Tracked) (left : ℕ) (room : Shares) (points : LivingPoints) (weights : List ℕ) (chosen : Option ℕ) (ready : IsReady f room points weights) (none : head_of (touched_in f) chosen ≡ None) where
-  abbrev state : Local
-  state = record { coords = points.coords; at = flying f.flight left; touched = touched_in f; chosen = chosen }
-
-  pub choice_total : sum weights ≡ fractional_count f.flight.values
-  choice_total =
-      ap (λ (ws : List ℕ). sum ws) (ready.weighed ∙ ap (λ alive. weights_of alive) (ready.living ∙ ap (λ (t : List ℕ). (untouched points.coords f.flight.values t).living) (none_touched (touched_in f) chosen none)))
-      ∙ untouched_total points.coords f.flight.values
-
-  pub choice_parts : parts_from units state state.at ≡ parts_in_flight units state f.flight left None
-  choice_parts = ap (λ h. parts_in_flight units state f.flight left (option_map (step_around units points.coords f) h)) none
-
-  pub choice_bound : sum weights ≡ weight_sum (parts_from units state state.at)
-  choice_bound =
-      choice_total ∙ sym (ap (λ (ps : List (Part Local)). weight_sum ps) choice_parts
-      ∙ weight_sum-equal (λ place. record state { chosen = Some (fractional_at f.flight.values place) }) (fractional_count f.flight.values))
 
 -- ---- one place of a line
 

@@ -9,16 +9,14 @@ ghost use Rattle.smp_moves.specs.Cubes.{left_in};
 ghost use Rattle.smp_flight.specs.{Landings.{IsBalanced}, Narrow.{IsNarrow}, Requests.{AreValues, units_of}};
 ghost use Rattle.smp_localcube.specs.{Kept.States.{IsPlaced}, Local.{local_of}, Method.{LocalUnits, method_of, started}};
 
-use crate::state::LocalCubeState;
-use smp_flight::{Shape, is_narrow, start};
+use crate::state::{LocalCubeState, Looked};
+use smp_flight::{Landing, Shape, is_narrow};
 use smp_frac::{NoMemory, Numbers};
 use smp_kernel::Tables;
-use smp_moves::Phase;
 use smp_near::Points;
 use smp_places::Amounts;
 use smp_prob::Request;
 use smp_split::{Kind, Splitting};
-use smp_values::{PivotalSteps, Values};
 use std::alloc::Global;
 use std::marker::Model;
 
@@ -84,16 +82,14 @@ impl<const K: usize> LocalCube<K> {
     {
         let rows = self.shape.rows();
         Ok(LocalCubeState {
-            flight: start(alloc, &self.shape)?,
-            phase: Phase::Flying,
-            left: 0,
-            room: Values::with_room(alloc, self.units)?,
-            steps: PivotalSteps::from_values(Values::with_room(alloc, 0)?),
+            landing: Landing::start(alloc, &self.shape)?,
             points: points_at(alloc, self.coords.as_slice())?,
             weights: Amounts::ones(alloc, self.units)?,
             chosen: None,
-            found: Box::new(alloc, None)?,
-            tables: Tables::new(alloc, rows),
+            looked: Looked {
+                found: Box::new(alloc, None)?,
+                tables: Tables::new(alloc, rows),
+            },
         })
     }
 

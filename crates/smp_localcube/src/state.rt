@@ -5,48 +5,40 @@ ghost use Rattle.smp_split.specs.Trees.{picked, weight_sum};
 ghost use Rattle.smp_values.specs.Values.{is_one, is_settled};
 ghost use Rattle.smp_moves.specs.{Answers.{IsPadded, line_of}, Cubes.{left_in, values_in}, Moves.{IsLine, IsOrder}};
 ghost use Rattle.smp_flight.specs.{Answers.{Allows, IsMoveOf, answer_of}, States.{IsFlight}};
-ghost use Rattle.smp_localcube.specs.{Local.{IsLocal, Local, kind_from, parts_from, untouched}, Laws.Splits.{HasHead}};
+ghost use Rattle.smp_localcube.specs.{Local.{IsLocal, Local, kind_from, parts_from, untouched}, Laws.Orders.{HasHead}};
 ghost use Rattle.smp_localcube.specs.Kept.States.{AreTouched, IsKept, IsSearchable, IsSearched, MayTouch, order_units};
-ghost use Rattle.smp_localcube.specs.Kept.States.{state_of, step_around, touched_in, weights_of};
+ghost use Rattle.smp_localcube.specs.Kept.States.{next_around, state_of, touched_in, weights_of};
 
 use crate::orders::{Order, is_among, rising};
-use smp_flight::{FlightState, Line, Next, Shape, fill, fly, landed, step_on};
+use smp_flight::{FlightState, Landing, Line, Next, Shape, fly, step_on};
 use smp_kernel::Tables;
 use smp_moves::Phase;
 use smp_near::Points;
 use smp_places::Amounts;
 use smp_split::Kind;
-use smp_values::{PivotalSteps, Values};
 use std::marker::{Brand, Model};
 use std::sync::ledger::Blank;
 
 /// A state of a selection by the local cube.
 ///
 /// Its window has the units that moves have changed and left fractional. The points of the units that no move has changed are living,
-/// and these have the weight 1: so a unit is chosen, and a changed one taken out, along one path of a tree. The room for the values of
-/// the pivotal steps is there from the start, and the tables of a search take memory where there is some: no step fails for want of it.
+/// and these have the weight 1: so a unit is chosen, and a changed one taken out, along one path of a tree. The tables of a search take
+/// memory where there is some: no step fails for want of it.
 #[derive(Drop)]
 pub struct LocalCubeState<const K: usize> {
-    pub(crate) flight: FlightState,
-    pub(crate) phase: Phase,
-    pub(crate) left: u32,
-    pub(crate) room: Values,
-    pub(crate) steps: PivotalSteps,
+    pub(crate) landing: Landing,
     pub(crate) points: Points<K>,
     pub(crate) weights: Amounts,
     pub(crate) chosen: Option<usize>,
-    /// The next step of the flight, none where a unit is to be chosen first: in a box, since it takes more bytes than all else here.
-    pub(crate) found: Box<Option<Next>>,
-    /// The tables of the search before, for the next one.
-    pub(crate) tables: Tables,
+    pub(crate) looked: Looked,
 }
 
 impl<const K: usize> Model for LocalCubeState<K> {
     ghost Value = { Local };
 
-    ghost view = { λ a. state_of a.phase a.flight a.steps a.left a.points a.chosen };
+    ghost view = { λ a. state_of a.landing.phase a.landing.flight a.landing.steps a.landing.left a.points a.chosen };
 
-    ghost invariant = { λ a. IsKept a.phase a.flight a.room a.points a.weights a.chosen a.found.value };
+    ghost invariant = { λ a. IsKept a.landing.phase a.landing.flight a.landing.room a.points a.weights a.chosen a.looked.found.value };
 }
 
 /// The step of a flight with these touched units and this head: its search goes through one unit more than there are rows in force, or
@@ -68,37 +60,46 @@ fn step_from<const K: usize>(
     requires living { points.now.living
         ≡ (untouched points.now.coords flight.now.flight.values (touched_in flight.now)).living }
     ensures is { answer_of result
-        ≡ step_around shape.now points.now.coords flight.now head }
+        ≡ next_around shape.now points.now.coords flight.now.flight (touched_in flight.now) head }
     ensures allows { Allows (IsMoveOf shape.now flight.now) shape.now flight.now result }
 {
     let most = flight.rows() + 1;
-    let order = touched.front(head).with_neighbours(points, head, most);
+    let first = touched.front(head);
+    let order = first.with_more(points, head, most - first.number);
     step_on(shape, flight, &order.units, order.number, tables)
 }
 
-/// The next step of a flight, searched for; none where a unit is to be chosen first.
-fn look<const K: usize>(
-    shape: &Shape,
-    flight: &FlightState,
-    points: &Points<K>,
-    chosen: Option<usize>,
-    tables: &mut Tables,
-) -> Option<Next>
-    requires { IsSearchable shape.now flight.now points.now chosen }
-    ensures { IsSearched flight.now.flight.fixed flight.now points.now.coords chosen result }
-{
-    let touched = rising(flight.window(), flight.units());
-    match touched.head(chosen) {
-        None => None,
-        Some(head) => Some(step_from(shape, flight, points, &touched, head, tables)),
-    }
+/// The next step of a flight, as it was looked for last.
+#[derive(Drop)]
+pub(crate) struct Looked {
+    /// None where a unit is to be chosen first: in a box, since it takes more bytes than all else here.
+    pub(crate) found: Box<Option<Next>>,
+    /// The tables of that search, for the next one.
+    pub(crate) tables: Tables,
 }
 
-/// Keeps the step that was looked for in place of the one before.
-fn keep(kept: &mut Box<Option<Next>>, found: Option<Next>)
-    ensures { kept.new.value ≡ found }
-{
-    **kept = found;
+impl Looked {
+    /// Looks for the next step of a flight.
+    fn look<const K: usize>(
+        &mut self,
+        shape: &Shape,
+        flight: &FlightState,
+        points: &Points<K>,
+        chosen: Option<usize>,
+    )
+        requires { IsSearchable shape.now flight.now points.now chosen }
+        ensures { let f = flight.now in
+            IsSearched f.flight.fixed f points.now.coords chosen self.new.found.value }
+    {
+        let touched = rising(flight.window(), flight.units());
+        match touched.head(chosen) {
+            None => *self.found = None,
+            Some(head) => {
+                let tables = &mut self.tables;
+                *self.found = Some(step_from(shape, flight, points, &touched, head, tables));
+            }
+        }
+    }
 }
 
 /// Takes the units that a line changes out of those that no move has changed.
@@ -129,10 +130,7 @@ impl<const K: usize> LocalCubeState<K> {
     pub(crate) fn is_done(&self) -> bool
         ensures { result ≡ is_settled (values_in self.now.at) }
     {
-        match self.phase {
-            Phase::Flying => self.flight.fractional() == 0,
-            Phase::Pairing => self.steps.is_done(),
-        }
+        self.landing.is_done()
     }
 
     /// Whether the value of a unit is 1.
@@ -140,17 +138,14 @@ impl<const K: usize> LocalCubeState<K> {
         requires { unit < length (values_in self.now.at).numer }
         ensures { result ≡ is_one (values_in self.now.at) unit }
     {
-        match self.phase {
-            Phase::Flying => self.flight.numer(unit) == self.flight.denom(),
-            Phase::Pairing => self.steps.is_one(unit),
-        }
+        self.landing.is_one(unit)
     }
 
     /// How many units were fractional where the landing began, or 0.
     pub(crate) fn left(&self) -> u32
         ensures { result ≡ left_in self.now.at }
     {
-        self.left
+        self.landing.left
     }
 
     /// The kind of the next step.
@@ -158,16 +153,14 @@ impl<const K: usize> LocalCubeState<K> {
         requires { IsLocal shape.now self.now }
         ensures { result ≡ kind_from shape.now self.now self.now.at }
     {
-        match self.phase {
-            Phase::Flying => match *self.found {
+        match self.landing.phase {
+            Phase::Flying => match *self.looked.found {
                 None => Kind::Choose,
-                Some(next) => match next {
-                    Next::Move(_) => Kind::Flight,
-                    Next::Independent => Kind::Drop,
-                    Next::Wide => Kind::Wide,
-                },
+                Some(Next::Move(_)) => Kind::Flight,
+                Some(Next::Independent) => Kind::Drop,
+                Some(Next::Wide) => Kind::Wide,
             },
-            Phase::Pairing => self.steps.kind(),
+            Phase::Pairing => self.landing.steps.kind(),
         }
     }
 
@@ -177,16 +170,14 @@ impl<const K: usize> LocalCubeState<K> {
         requires going { is_settled (values_in self.now.at) ≡ false }
         ensures { result ≡ weight_sum (parts_from shape.now self.now self.now.at) }
     {
-        match self.phase {
-            Phase::Flying => match *self.found {
+        match self.landing.phase {
+            Phase::Flying => match *self.looked.found {
                 None => self.weights.total() as u128,
-                Some(next) => match next {
-                    Next::Move(mv) => mv.plus_weight + mv.minus_weight,
-                    Next::Independent => 1,
-                    Next::Wide => 1,
-                },
+                Some(Next::Move(mv)) => mv.plus_weight + mv.minus_weight,
+                Some(Next::Independent) => 1,
+                Some(Next::Wide) => 1,
             },
-            Phase::Pairing => self.steps.bound(),
+            Phase::Pairing => self.landing.steps.bound(),
         }
     }
 
@@ -197,45 +188,31 @@ impl<const K: usize> LocalCubeState<K> {
         requires within { draw < weight_sum (parts_from shape.now self.old self.old.at) }
         ensures { self.new ≡ picked self.old (parts_from shape.now self.old self.old.at) draw }
     {
-        match self.phase {
-            Phase::Flying => {
-                let next = *self.found;
-                match next {
-                    None => {
-                        let unit = self.weights.find(draw);
-                        self.chosen = Some(unit);
-                        let tables = &mut self.tables;
-                        let next = look(shape, &self.flight, &self.points, Some(unit), tables);
-                        keep(&mut self.found, next);
-                    }
-                    Some(next) => match next {
-                        Next::Independent => {
-                            self.left = landed(&self.flight, self.left);
-                            self.flight.drop_row(shape);
-                            let tables = &mut self.tables;
-                            let next = look(shape, &self.flight, &self.points, self.chosen, tables);
-                            keep(&mut self.found, next);
-                        }
-                        Next::Wide => {
-                            self.left = landed(&self.flight, self.left);
-                            fill(&self.flight, &mut self.room);
-                            self.steps.set(&mut self.room);
-                            self.phase = Phase::Pairing;
-                        }
-                        Next::Move(mv) => {
-                            let plus = draw < mv.plus_weight;
-                            let line = &mv.direction;
-                            touch(&mut self.points, &mut self.weights, &self.flight, line);
-                            fly::<Brand>(shape, &mut self.flight, &mv, plus, Blank::new(1));
-                            self.chosen = None;
-                            let tables = &mut self.tables;
-                            let next = look(shape, &self.flight, &self.points, None, tables);
-                            keep(&mut self.found, next);
-                        }
-                    },
+        match self.landing.phase {
+            Phase::Flying => match *self.looked.found {
+                None => {
+                    let unit = self.weights.find(draw);
+                    self.chosen = Some(unit);
+                    self.looked
+                        .look(shape, &self.landing.flight, &self.points, Some(unit));
                 }
-            }
-            Phase::Pairing => self.steps.advance(draw),
+                Some(Next::Independent) => {
+                    self.landing.drop_row(shape);
+                    self.looked
+                        .look(shape, &self.landing.flight, &self.points, self.chosen);
+                }
+                Some(Next::Wide) => self.landing.settle(shape),
+                Some(Next::Move(mv)) => {
+                    let plus = draw < mv.plus_weight;
+                    let flight = &self.landing.flight;
+                    touch(&mut self.points, &mut self.weights, flight, &mv.direction);
+                    fly::<Brand>(shape, &mut self.landing.flight, &mv, plus, Blank::new(1));
+                    self.chosen = None;
+                    self.looked
+                        .look(shape, &self.landing.flight, &self.points, None);
+                }
+            },
+            Phase::Pairing => self.landing.steps.advance(draw),
         }
     }
 }

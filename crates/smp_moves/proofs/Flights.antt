@@ -2,11 +2,11 @@
 use Rattle.std.proofs.{Common.{◌≡◌, ◌≢◌, ℕ, ◌<◌, ◌≤◌, List, [], ◌∷◌, arith, refl, inl, inr}, lemmas.Bool.{ne_eqb}}
 use Rattle.smp_frac.specs.Fractions.{times, whole}
 use Rattle.smp_frac.proofs.Arithmetic.{plus-zero}
-use Rattle.smp_split.specs.{Parts.{moved}, Trees.{Part, EachPart, LawfulParts}, declared.kind.Kind.{Kind}}
+use Rattle.smp_split.specs.{Parts.{moved}, Trees.{Part, EachPart, LawfulParts, Tree}, declared.kind.Kind.{Kind}}
 use Rattle.smp_split.specs.declared.kind.Kind.TheVariants as kind
 use Rattle.smp_values.specs.Steps.{kind_on}
 use Rattle.smp_moves.specs.{Balances.{Begins}, Moves.{Next, move, independent, wide}}
-use Rattle.smp_moves.specs.Cubes.{Balancing, Cube, Flight, flying, pairing, flight_kind, flight_parts, kind_by, landed, left_in, parts_by, rank_in, tree_by, values_in}
+use Rattle.smp_moves.specs.Cubes.{Balancing, Cube, Flight, flying, pairing, flight_kind, flight_parts, kind_by, landed, left_in, parts_by, values_in}
 
 pub is_independent : (a : Next) → flight_kind a ≡ kind.Drop → a ≡ independent
 is_independent independent k = refl
@@ -68,13 +68,13 @@ module _ {Values Fixed : Type 0} (cube : Cube Values) (next : Flight Values Fixe
 
 -- ---- one part with the same values
 
-pub lone_split : {Values Fixed : Type 0} (cube : Cube Values) (o : Flight Values Fixed → Next) (belongs : Balancing Values Fixed → Type 0) (s t : Balancing Values Fixed) → values_in t ≡ values_in s →
-    rank_in cube.fractional_count t < rank_in cube.fractional_count s → belongs t → LawfulParts (tree_by cube o) belongs s (record { weight = 1; state = t } ∷ [])
-lone_split cube o belongs s t same falls member = record {
+pub lone_split : {State : Type 0} (tree : Tree State) (belongs : State → Type 0) (s t : State) → ((k : ℕ) → tree.value t k ≡ tree.value s k) → tree.rank t < tree.rank s → belongs t →
+    LawfulParts tree belongs s (record { weight = 1; state = t } ∷ [])
+lone_split tree belongs s t same falls member = record {
   some = omega arith;
   narrow = omega arith;
   each = (record { heavy = omega arith; falls = falls; member = member }, tt);
-  even = λ k _. rw same (plus-zero (times (whole 1) (cube.value_at (values_in s) k)));
+  even = λ k _. rw (same k) (plus-zero (times (whole 1) (tree.value s k)));
 }
 
 -- ---- sequential pivotal steps

@@ -2,7 +2,7 @@
 use Rattle.std.proofs.Common.{◌≡◌, ℕ, zero, suc, ◌+◌, ◌-◌, ◌*◌, ◌/◌, ◌<◌, ◌≤◌, true, false, List, [], ◌∷◌, ℤ, pos, negsuc, length, get_or, arith, refl, sym, ap, ◌∙◌, subst, inl, inr, ◌⊎◌, mul-pos, eq-zero-or-pos}
 use Rattle.std.specs.{Int.{IsGcd}, Int.RustNames.{unsigned_abs}}
 use Rattle.std.proofs.{lemmas.Bool.{cases_lt}, lemmas.List.{length-map, get_or-map, get_or_past, get_or_default}}
-use Rattle.std.proofs.{lemmas.List.FromFn.{get_or-map-range_with_len, length-map-range_with_len}, lemmas.Nat.Gcd.{dvd_refl, dvd_trans}}
+use Rattle.std.proofs.lemmas.Nat.Gcd.{dvd_refl, dvd_trans}
 use Rattle.std.proofs.Math.Nat.{mul-dvd-mul_left, mul-div_cancel', dvd-mul_left, dvd-mul_right_of_dvd, dvd_of_mul-dvd-mul_left, pos_of_dvd_of_pos, le_of_dvd}
 use Prim.Native.Nat.{◌∣◌}
 use Rattle.smp_frac.specs.{Fractions.{Same, over}, Divisors.{greatest_common_divisor}, Laws.Gcds.{IsGcd-greatest_common_divisor}}
@@ -17,6 +17,7 @@ use Rattle.smp_prob.specs.Shares.{Shares}
 use Rattle.smp_moves.specs.Moves.{Line, IsLine, entry_of, fraction_of, StaysWithin, IsGreatest, IsMoved}
 use Rattle.smp_moves.specs.Ends.{room, reach, lowest, extent, advanced, advanced_numbers, common_factor, end_of}
 use Rattle.smp_moves.proofs.{Along.{StaysAt, stays_at, furthest, advanced_is}, Reaching.{IsReach, is_reach}}
+use Rattle.smp_moves.proofs.Places.{advanced_at, length_advanced}
 use Rattle.smp_moves.proofs.Entries.{order_going, order_within, some_entry, room_some, on_line, off_line, place_or}
 
 -- ---- lowest terms
@@ -150,12 +151,6 @@ module _ (first : ℕ) (s : Shares) (is_over : IsOver first s) (line : Line) (ok
   abbrev g : ℕ
   g = common_factor (s.den * (reach s line).size / first) (advanced_numbers s.numer line (reach s line))
 
-  length_numbers : length numbers ≡ length s.numer
-  length_numbers = length-map-range_with_len (λ k. advanced (get_or s.numer k 0) (reach s line) (entry_of line k)) 0 (length s.numer)
-
-  number_at : (k : ℕ) → k < length s.numer → get_or numbers k 0 ≡ advanced (a_at k) (reach s line) (entry_of line k)
-  number_at k l = get_or-map-range_with_len (λ i. advanced (get_or s.numer i 0) (reach s line) (entry_of line i)) 0 (length s.numer) k k 0 l (omega arith)
-
   start_divides : first ∣ full
   start_divides = dvd-mul_right_of_dvd first is_over.multiple U
 
@@ -195,15 +190,15 @@ module _ (first : ℕ) (s : Shares) (is_over : IsOver first s) (line : Line) (ok
   last = end_of first s line
 
   length_last : length last.numer ≡ length s.numer
-  length_last = length-map numbers (λ n. n / g) ∙ length_numbers
+  length_last = length-map numbers (λ n. n / g) ∙ length_advanced s.numer line (reach s line)
 
   -- each numerator, times what is taken out
   last_whole : (k : ℕ) → g * get_or last.numer k 0 ≡ advanced (a_at k) (reach s line) (entry_of line k)
   last_whole k =
       elim (cases_lt k (length s.numer)) [
         | inl l ↦
-            (let here : get_or last.numer k 0 ≡ get_or numbers k 0 / g = get_or-map (λ n. n / g) numbers k 0 0 (omega (arith, l, length_numbers)) in
-            ap (λ x. g * x) here ∙ mul-div_cancel' g (divides_each (full / first) numbers k (omega (arith, l, length_numbers))) ∙ number_at k l)
+            (let here : get_or last.numer k 0 ≡ get_or numbers k 0 / g = get_or-map (λ n. n / g) numbers k 0 0 (omega (arith, l, length_advanced s.numer line (reach s line))) in
+            ap (λ x. g * x) here ∙ mul-div_cancel' g (divides_each (full / first) numbers k (omega (arith, l, length_advanced s.numer line (reach s line)))) ∙ advanced_at s.numer line (reach s line) k l)
         | inr past ↦
             (let none : get_or last.numer k 0 ≡ 0 = get_or_past last.numer k 0 (omega (arith, length_last)) in
             let was : a_at k ≡ 0 = get_or_past s.numer k 0 past in
@@ -223,12 +218,6 @@ module _ (first : ℕ) (s : Shares) (is_over : IsOver first s) (line : Line) (ok
 
   -- ---- no smaller multiple of the requested denominator makes the values whole
 
-  whole_divides : (m : ℕ) → MakesWhole (first * m) last → (k : ℕ) → times ∣ m * get_or last.numer k 0
-  whole_divides m h k =
-      dvd_of_mul-dvd-mul_left times is_over.some
-      (let P : ℕ → Type 0 = λ x. x ∣ first * (m * get_or last.numer k 0) in
-      subst P den_is (let Q : ℕ → Type 0 = λ x. full / g ∣ x in subst Q (let e : get_or last.numer k 0 * (first * m) ≡ first * (m * get_or last.numer k 0) = omega arith in e) (h k)))
-
   abbrev parts_of : ℕ → ℕ
   parts_of zero = full / first / g
   parts_of (suc k) = get_or last.numer k 0
@@ -238,7 +227,7 @@ module _ (first : ℕ) (s : Shares) (is_over : IsOver first s) (line : Line) (ok
       let into : (x y : ℕ) → g * x ≡ y → d ∣ x → g * d ∣ y = λ x y e h. (let P : ℕ → Type 0 = λ z. g * d ∣ z in subst P e (mul-dvd-mul_left d g h)) in
       let both : g * d ∣ g =
       divides_common (g * d) (full / first) numbers (into times (full / first) times_is (all 0))
-      (λ i l. (let h : i < length s.numer = omega (arith, l, length_numbers) in into (get_or last.numer i 0) (get_or numbers i 0) (last_whole i ∙ sym (number_at i h)) (all (suc i)))) in
+      (λ i l. (let h : i < length s.numer = omega (arith, l, length_advanced s.numer line (reach s line)) in into (get_or last.numer i 0) (get_or numbers i 0) (last_whole i ∙ sym (advanced_at s.numer line (reach s line) i h)) (all (suc i)))) in
       let pd : 0 < d = pos_of_dvd_of_pos (dvd_trans d (dvd-mul_left d g) both) common_some in
       one_from_le d g pd common_some (let le : g * d ≤ g = le_of_dvd common_some both in omega (arith, le))
 
@@ -248,7 +237,10 @@ module _ (first : ℕ) (s : Shares) (is_over : IsOver first s) (line : Line) (ok
     where
       at : (m : ℕ) → MakesWhole (first * m) last → (i : ℕ) → times ∣ m * parts_of i
       at m h zero = dvd-mul_left times m
-      at m h (suc k) = whole_divides m h k
+      at m h (suc k) =
+          dvd_of_mul-dvd-mul_left times is_over.some
+          (let P : ℕ → Type 0 = λ x. x ∣ first * (m * get_or last.numer k 0) in
+          subst P den_is (let Q : ℕ → Type 0 = λ x. full / g ∣ x in subst Q (let e : get_or last.numer k 0 * (first * m) ≡ first * (m * get_or last.numer k 0) = omega arith in e) (h k)))
 
   pub moved : IsMoved first s line (extent s line) (end_of first s line)
   moved = record {

@@ -1,6 +1,6 @@
 -- The values at the end of a line lie from 0 to 1, and fewer of them are fractional.
 use Rattle.std.proofs.Common.{◌≡◌, ℕ, zero, suc, ◌+◌, ◌*◌, ◌<◌, ◌≤◌, ◌^◌, Bool, true, false, cond, List, [], ◌∷◌, length, get_or, pos, arith, refl, sym, ◌∙◌, subst, inl, inr, le_of_suc-le-suc, eq-zero-or-pos, mul-pos}
-use Rattle.std.specs.List.{count_by, Contains}
+use Rattle.std.specs.List.{count_by}
 use Rattle.std.proofs.{lemmas.Bool.{cases_Bool, cases_lt}, lemmas.List.Sums.{sum_by-cons}, Math.Nat.{mul-le-mul_right, dvd-mul_right}}
 use Prim.Native.Nat.{◌∣◌}
 use Rattle.smp_frac.specs.Fractions.{Same}
@@ -25,32 +25,26 @@ same_tests false true h k = k refl
 same_tests false false h k = refl
 
 -- ---- counting
-pub count_at_most : (P Q : ℕ → Bool) (xs ys : List ℕ) → length xs ≡ length ys → ((k : ℕ) → k < length xs → Q (get_or ys k 0) ≡ true → P (get_or xs k 0) ≡ true) → count_by Q ys ≤ count_by P xs
-count_at_most P Q [] [] e h = omega arith
-count_at_most P Q [] (y ∷ ys) e h = absurd (omega arith)
-count_at_most P Q (x ∷ xs) [] e h = absurd (omega arith)
-count_at_most P Q (x ∷ xs) (y ∷ ys) e h =
-    let r = count_at_most P Q xs ys (omega arith) (λ k l. h (suc k) (omega arith)) in
+-- not more elements pass the second test than the first, and fewer do where one passes the first alone
+count_most : (P Q : ℕ → Bool) (xs ys : List ℕ) → length xs ≡ length ys → ((k : ℕ) → k < length xs → Q (get_or ys k 0) ≡ true → P (get_or xs k 0) ≡ true) →
+    (count_by Q ys ≤ count_by P xs) × ((j : ℕ) → j < length xs → P (get_or xs j 0) ≡ true → Q (get_or ys j 0) ≡ false → count_by Q ys < count_by P xs)
+count_most P Q [] [] e h = (omega arith, λ j l p q. absurd (omega (arith, l)))
+count_most P Q [] (y ∷ ys) e h = absurd (omega arith)
+count_most P Q (x ∷ xs) [] e h = absurd (omega arith)
+count_most P Q (x ∷ xs) (y ∷ ys) e h =
+    let r = count_most P Q xs ys (omega arith) (λ k l. h (suc k) (omega arith)) in
     let cx : count_by P (x ∷ xs) ≡ cond (P x) 1 0 + count_by P xs = sum_by-cons (λ a. cond (P a) 1 0) x xs in
     let cy : count_by Q (y ∷ ys) ≡ cond (Q y) 1 0 + count_by Q ys = sum_by-cons (λ a. cond (Q a) 1 0) y ys in
-    let one : cond (Q y) 1 0 ≤ cond (P x) 1 0 = elim (cases_Bool (Q y)) [ inl t ↦ rw (t, h 0 (omega arith) t) (omega arith) | inr f ↦ rw f (omega arith) ] in
-    omega arith
+    let one : cond (Q y) 1 0 ≤ cond (P x) 1 0 = elim (cases_Bool (Q y)) [ inl t ↦ rw (t, h 0 (omega arith) t) (omega arith) | inr f ↦ rw f (omega arith) ] in (
+      omega (arith, r.0, cx, cy, one),
+      elim [
+        | zero ↦ λ l p q. (let a : 1 ≤ cond (P x) 1 0 = rw p (omega arith) in let b : cond (Q y) 1 0 ≤ 0 = rw q (omega arith) in omega (arith, r.0, cx, cy, a, b))
+        | suc j ↦ λ l p q. (let rest = r.1 j (le_of_suc-le-suc l) p q in omega (arith, rest, cx, cy, one))
+      ],
+    )
 
 pub count_falls : (P Q : ℕ → Bool) (xs ys : List ℕ) (j : ℕ) → length xs ≡ length ys → ((k : ℕ) → k < length xs → Q (get_or ys k 0) ≡ true → P (get_or xs k 0) ≡ true) → j < length xs → P (get_or xs j 0) ≡ true → Q (get_or ys j 0) ≡ false → count_by Q ys < count_by P xs
-count_falls P Q [] ys j e h l p q = absurd (omega arith)
-count_falls P Q (x ∷ xs) [] j e h l p q = absurd (omega arith)
-count_falls P Q (x ∷ xs) (y ∷ ys) zero e h l p q =
-    let r = count_at_most P Q xs ys (omega arith) (λ k l. h (suc k) (omega arith)) in
-    let cx : count_by P (x ∷ xs) ≡ cond (P x) 1 0 + count_by P xs = sum_by-cons (λ a. cond (P a) 1 0) x xs in
-    let cy : count_by Q (y ∷ ys) ≡ cond (Q y) 1 0 + count_by Q ys = sum_by-cons (λ a. cond (Q a) 1 0) y ys in
-    let pt : P x ≡ true = p in let qf : Q y ≡ false = q in
-    let a : 1 ≤ cond (P x) 1 0 = rw pt (omega arith) in let b : cond (Q y) 1 0 ≤ 0 = rw qf (omega arith) in omega arith
-count_falls P Q (x ∷ xs) (y ∷ ys) (suc j) e h l p q =
-    let r = count_falls P Q xs ys j (omega arith) (λ k l. h (suc k) (omega arith)) (le_of_suc-le-suc l) p q in
-    let cx : count_by P (x ∷ xs) ≡ cond (P x) 1 0 + count_by P xs = sum_by-cons (λ a. cond (P a) 1 0) x xs in
-    let cy : count_by Q (y ∷ ys) ≡ cond (Q y) 1 0 + count_by Q ys = sum_by-cons (λ a. cond (Q a) 1 0) y ys in
-    let one : cond (Q y) 1 0 ≤ cond (P x) 1 0 = elim (cases_Bool (Q y)) [ inl t ↦ rw (t, h 0 (omega arith) t) (omega arith) | inr f ↦ rw f (omega arith) ] in
-    omega arith
+count_falls P Q xs ys j e h = (count_most P Q xs ys e h).1 j
 
 -- ---- the values at the end
 
@@ -79,16 +73,12 @@ module _ (first : ℕ) (s : Shares) (is_over : IsOver first s) (line : Line) (ok
       (same_fractional (get_or s.numer k 0) s.den (get_or last.numer k 0) last.den is_over.values.positive (keeps_still k none))
       (same_fractional (get_or last.numer k 0) last.den (get_or s.numer k 0) s.den last_moved.positive (sym (keeps_still k none)))
 
-  -- a unit that isn't on the line keeps its value
-  pub keeps_off : (k : ℕ) → (Contains line.units k → ⊥) → get_or last.numer k 0 * s.den ≡ get_or s.numer k 0 * last.den
-  keeps_off k out = keeps_still k (off_line s line ok k out)
-
   -- what is fractional after the move was so before
   pub keeps_fractional : (k : ℕ) → is_fractional last k ≡ true → is_fractional s k ≡ true
   keeps_fractional k b =
       elim (place_or line.units k) [
         | inl h ↦ subst (λ (x : ℕ). is_fractional s x ≡ true) h.2 (order_going s line.units ok.order h.0 h.1)
-        | inr out ↦ same_fractional (get_or s.numer k 0) s.den (get_or last.numer k 0) last.den is_over.values.positive (keeps_off k out) b
+        | inr out ↦ same_fractional (get_or s.numer k 0) s.den (get_or last.numer k 0) last.den is_over.values.positive (keeps_still k (off_line s line ok k out)) b
       ]
 
   pub end_settles : fractional_count last < fractional_count s

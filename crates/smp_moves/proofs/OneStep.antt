@@ -59,9 +59,6 @@ module _ {Values : Type 0} (setting : Setting Values) (values : Values) (order :
   up_some : 1 ≤ m.up.num * m.down.den
   up_some = mul-pos some_up a.down.some
 
-  down_some : 1 ≤ m.down.num * m.up.den
-  down_some = mul-pos some_down a.up.some
-
   balance : m.plus_weight * (m.up.num * m.down.den) ≡ m.minus_weight * (m.down.num * m.up.den)
   balance = weights_cross m.plus_weight m.minus_weight m.up m.down a.up.some a.down.some a.weights
 
@@ -69,7 +66,7 @@ module _ {Values : Type 0} (setting : Setting Values) (values : Values) (order :
   minus_some = some_weight m.plus_weight m.minus_weight (m.up.num * m.down.den) (m.down.num * m.up.den) up_some balance a.coprime
 
   pub plus_some : 1 ≤ m.plus_weight
-  plus_some = some_weight m.minus_weight m.plus_weight (m.down.num * m.up.den) (m.up.num * m.down.den) down_some (sym balance) (IsGcd-swap m.plus_weight m.minus_weight 1 a.coprime)
+  plus_some = some_weight m.minus_weight m.plus_weight (m.down.num * m.up.den) (m.up.num * m.down.den) (mul-pos some_down a.up.some) (sym balance) (IsGcd-swap m.plus_weight m.minus_weight 1 a.coprime)
 
   module _ (one_end : (line : Line) (r : Ratio) (p q : Values) → setting.IsEnd values line r p → setting.IsEnd values line r q → p ≡ q) where
     abbrev SameMove : Line → Type 0

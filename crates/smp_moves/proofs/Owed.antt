@@ -58,12 +58,8 @@ lands_or_not b (entry ∷ path) from to leads =
 module _ {State : Type 0} (b : Weighed State) (belongs flying : State → Type 0) (owes : Owes b belongs flying) where
   -- ---- before the landing
 
-  record IsUnlanded (s : State) : Type 0 where
-    member : belongs s
-    flies : flying s
-    rows : b.rows s ≡ b.all_rows
-    left : b.left s ≡ 0
-    totals : (row : ℕ) → row < b.all_rows → Same (weighed_total b s row) (b.known row)
+  abbrev IsUnlanded : State → Type 0
+  IsUnlanded = IsStart b belongs flying
 
   unlanded_step : (s : State) (entry : Entry) → IsUnlanded s → IsStep b.tree s entry → entry.0 ≢ kind.Drop → entry.0 ≢ kind.Wide → IsUnlanded (picked s (b.tree.parts s) entry.2)
   unlanded_step s entry u step not_drop not_wide =
@@ -125,11 +121,8 @@ module _ {State : Type 0} (b : Weighed State) (belongs flying : State → Type 0
   -- ---- of every path
 
   module _ (from : State) (start : IsStart b belongs flying from) where
-    unlanded : IsUnlanded from
-    unlanded = record { member = start.member; flies = start.flies; rows = start.rows; left = start.left; totals = start.totals }
-
     at_landing : (before : List Entry) (s : State) → LandsAt (balance_of b) from before s → IsUnlanded s
-    at_landing before s lands = unlanded_path before from s lands.leads lands.flight unlanded
+    at_landing before s lands = unlanded_path before from s lands.leads lands.flight start
 
     flight_keeps : (path : List Entry) (s : State) (entry : Entry) → Leads b.tree from path s → IsStep b.tree s entry → entry.0 ≡ kind.Flight → (row : ℕ) → row < b.rows s → Same (weighed_total b (picked s (b.tree.parts s) entry.2) row) (weighed_total b s row)
     flight_keeps path s entry leads step is row l =
@@ -154,7 +147,7 @@ module _ {State : Type 0} (b : Weighed State) (belongs flying : State → Type 0
     left_few : NeverWide b from → b.narrow → (path : List Entry) (to : State) → Leads b.tree from path to → b.left to ≤ b.all_rows
     left_few never narrow path to leads =
         elim (lands_or_not (balance_of b) path from to leads) [
-          | inl before ↦ (let none = (unlanded_path path from to leads before unlanded).left in omega (arith, none))
+          | inl before ↦ (let none = (unlanded_path path from to leads before start).left in omega (arith, none))
           | inr r ↦
               (let u = at_landing r.before r.at r.lands in
               let count = left_counted r.before r.after r.entry r.at to r.lands r.goes_on in
@@ -167,9 +160,9 @@ module _ {State : Type 0} (b : Weighed State) (belongs flying : State → Type 0
     pub is_balanced : NeverWide b from → IsBalanced (balance_of b) from
     is_balanced never = record {
       flights = flight_keeps;
-      totals = λ path s leads before row l. (unlanded_path path from s leads before unlanded).totals row l;
+      totals = λ path s leads before row l. (unlanded_path path from s leads before start).totals row l;
       exact = λ path leaf leads before done row l.
-          same_trans (estimate_is from leaf path start.member leads done row) ((unlanded_path path from leaf leads before unlanded).totals row l);
+          same_trans (estimate_is from leaf path start.member leads done row) ((unlanded_path path from leaf leads before start).totals row l);
       lands = λ path to leads. lands_or_not (balance_of b) path from to leads;
       landing = λ before s lands. owes.stuck s (at_landing before s lands).member lands.begins;
       drops = λ path s leads going drops. owes.drops s (leads_belong b.tree belongs owes.lawful path from s leads start.member) drops;
@@ -179,7 +172,7 @@ module _ {State : Type 0} (b : Weighed State) (belongs flying : State → Type 0
       error = λ before after s leaf lands leads done row l.
           (let u = at_landing before s lands in
           differ_by_same (estimate_is s leaf after u.member leads done row) (same_sym (u.totals row l)) (total_error s leaf after u.member leads row));
-      none_left = λ path s leads before. (unlanded_path path from s leads before unlanded).left;
+      none_left = λ path s leads before. (unlanded_path path from s leads before start).left;
       left = left_counted;
       never_wide = never;
       few_left = left_few never;

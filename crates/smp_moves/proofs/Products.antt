@@ -58,9 +58,6 @@ module _ (share : ℕ → Ratio) where
     pub all_some : AllSome (map (λ (r : Ratio). r.den) (products share order w))
     all_some = dens_some order w (λ j l. (some j l).den)
 
-    pub scale_some : 1 ≤ scale_of share order w
-    scale_some = multiple_some (map (λ (r : Ratio). r.den) (products share order w)) all_some
-
     pub scale_divides : (j : ℕ) → j < length order → j < length w → (product (share (get_or order j 0)) (entry w j)).den ∣ scale_of share order w
     scale_divides = dens_divide order w (scale_of share order w) (multiple_each (map (λ (r : Ratio). r.den) (products share order w)) all_some)
 
@@ -79,7 +76,7 @@ module _ (share : ℕ → Ratio) where
               let c : p.num * (share k).den ≡ 0 = rw zz (omega arith) in
               omega (arith, b, c, is.same))
         ] in
-        let q : 1 ≤ scale_of share order w / p.den = part_positive (scale_of share order w) p.den scale_some (scale_divides j l m) in
+        let q : 1 ≤ scale_of share order w / p.den = part_positive (scale_of share order w) p.den (multiple_some (map (λ (r : Ratio). r.den) (products share order w)) all_some) (scale_divides j l m) in
         let size : 1 ≤ p.num * (scale_of share order w / p.den) = mul-pos num_some q in
         let e : signed (entry w j) (p.num * (scale_of share order w / p.den)) ≡ pos 0 = sym (entry-scaled (scale_of share order w) order w j l m) ∙ z in
         let zero_abs : p.num * (scale_of share order w / p.den) ≡ 0 = sym (signed_abs (entry w j) (p.num * (scale_of share order w / p.den))) ∙ ap unsigned_abs e in

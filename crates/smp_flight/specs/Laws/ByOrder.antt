@@ -111,10 +111,10 @@ module _ (units : Units) (f : Flight) (left : ℕ) (order : List ℕ) (ok : IsFl
   split_by o going (move m) is = move_split units f left order ok whole_order.is_order m is o
   split_by o going independent is =
       let some = some_row is going in
-      lone_split (shares_cube units) o (IsBalancing units) (flying f left)
-      (flying (dropped f) (landed (fractional_count f.values) left)) refl (omega (arith, some)) dropped_flight
-  split_by o going wide is = lone_split (shares_cube units) o (IsBalancing units) (flying f left)
-      (pairing f.values (landed (fractional_count f.values) left)) refl (omega arith) ok.values
+      lone_split (tree_by (shares_cube units) o) (IsBalancing units) (flying f left)
+      (flying (dropped f) (landed (fractional_count f.values) left)) (λ k. refl) (omega (arith, some)) dropped_flight
+  split_by o going wide is = lone_split (tree_by (shares_cube units) o) (IsBalancing units) (flying f left)
+      (pairing f.values (landed (fractional_count f.values) left)) (λ k. refl) (omega arith) ok.values
 
 -- ---- the pivotal steps
 

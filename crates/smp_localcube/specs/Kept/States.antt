@@ -4,13 +4,13 @@ use Rattle.std.specs.Prelude.{map, take, Option, IfSome, option_map}
 use Rattle.std.specs.Int.RustNames.{unsigned_abs}
 use Rattle.std.specs.List.{filter}
 use Rattle.smp_near.specs.Nearest.{LivingPoints, is_living}
-use Rattle.smp_frac.specs.Limits.{most_rows}
 use Rattle.smp_prob.specs.Shares.{Shares}
 use Rattle.smp_values.specs.Values.{AllFractional, fractional_units, is_fractional}
 use Rattle.smp_moves.specs.Kept.Phases.{balancing_of}
 use Rattle.smp_moves.specs.Moves.{Line, entry_of, Next}
 use Rattle.smp_moves.specs.declared.lines.Line.{Line as LineOfPlaces}
-use Rattle.smp_flight.specs.States.{IsFlight, Tracked, Units}
+use Rattle.smp_flight.specs.States.{Flight, IsFlight, Tracked, Units}
+use Rattle.smp_flight.specs.Landings.{HasRoom}
 use Rattle.smp_flight.specs.Answers.{Allows, IsMoveOf, answer_of}
 use Rattle.smp_flight.specs.declared.steps.Next.{Next as Answer}
 use Rattle.smp_flight.specs.Steps.{next_on}
@@ -34,10 +34,9 @@ order_units order = take order.number order.units
 abbrev pub touched_in : Tracked → List ℕ
 touched_in f = filter (is_one_of f.window) (fractional_units f.flight.values)
 
--- the step of a flight with this head
-abbrev pub step_around : Units → List (List ℤ) → Tracked → ℕ → Next
-step_around units coords f head =
-    next_on units (order_around coords f.flight.values (touched_in f) head) f.flight
+-- the next step of a flight with these touched units and this head
+abbrev pub next_around : Units → List (List ℤ) → Flight → List ℕ → ℕ → Next
+next_around units coords f touched head = next_on units (order_around coords f.values touched head) f
 
 -- whether a line changes a unit
 abbrev pub is_changed : Line → ℕ → Bool
@@ -73,11 +72,10 @@ state_of phase f s left points chosen = record {
 abbrev pub weights_of : List Bool → List ℕ
 weights_of living = map (λ alive. if alive then 1 else 0) living
 
--- As long as it flies, there is room for the values of the pivotal steps, the units can be counted, each has a point, the points of
--- those that no move has changed are living, and these have the weight 1.
-pub record IsReady (f : Tracked) (room : Shares) (points : LivingPoints) (weights : List ℕ) : Type 0 where
-  pub fits : length room.numer ≡ length f.flight.values.numer
-  pub few : length f.flight.values.numer ≤ most_rows
+-- As long as it flies, there is room for the values of the pivotal steps, each unit has a point, the points of those that no move has
+-- changed are living, and these have the weight 1.
+pub record IsReady (f : Tracked) (values : Shares) (points : LivingPoints) (weights : List ℕ) : Type 0 where
+  pub room : HasRoom (length f.flight.values.numer) values
   pub placed : length points.coords ≡ length f.flight.values.numer
   pub living : points.living ≡ (untouched points.coords f.flight.values (touched_in f)).living
   pub weighed : weights ≡ weights_of points.living
@@ -92,7 +90,7 @@ pub record IsSearchable (units : Units) (f : Tracked) (points : LivingPoints) (c
 
 -- the next step of a flight, none where a unit is to be chosen first
 pub record IsSearched (units : Units) (f : Tracked) (coords : List (List ℤ)) (chosen : Option ℕ) (found : Option Answer) : Type 0 where
-  pub is : option_map answer_of found ≡ option_map (step_around units coords f) (head_of (touched_in f) chosen)
+  pub is : option_map answer_of found ≡ option_map (next_around units coords f.flight (touched_in f)) (head_of (touched_in f) chosen)
   pub allows : IfSome found (Allows (IsMoveOf units f) units f)
 
 -- and the step that is kept is the next one

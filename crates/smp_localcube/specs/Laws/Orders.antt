@@ -1,11 +1,11 @@
 -- What a search goes through: all fractional units, each of them once.
 use Rattle.std.proofs.Common.{◌≡◌, ◌≢◌, ℕ, Bool, true, false, not, nat_eq, ◌&&◌, ℤ, List, [], ◌∷◌}
 use Rattle.std.proofs.Common.{◌++◌, ◌⊎◌, map, length, arith, refl, sym, ap, ◌∙◌, subst, inl, inr, suc, suc-le-suc}
-use Rattle.std.specs.List.{AllPairs, filter, range_with_len}
+use Rattle.std.specs.{Prelude.{Option, Some, None, unwrap_or}, List.{AllPairs, filter, range_with_len}}
 use Rattle.std.proofs.lemmas.Bool.{and_from, and_parts, both_ways, cases_Bool, cases_eq, cases_lt, eq-eqb, eqb-false, ne_eqb, not-true}
 use Rattle.std.proofs.lemmas.Bool.{or_left, or_right, true≢false}
 use Rattle.std.proofs.lemmas.List.{get_or_past, length-map}
-use Rattle.std.proofs.lemmas.List.Elements.{All-append}
+use Rattle.std.proofs.lemmas.List.Elements.{All-append, All-filter}
 use Rattle.std.proofs.lemmas.List.FromFn.{get_or-map-range_with_len, length-range_with_len}
 use Rattle.std.proofs.lemmas.List.Kept.{AllPairs-cons, AllPairs-filter}
 use Rattle.smp_near.specs.Nearest.{is_living, is_other, neighbours}
@@ -17,10 +17,10 @@ use Rattle.smp_flight.specs.Kept.Windows.{is_in}
 use Rattle.smp_flight.specs.Selections.{IsWholeOrder}
 use Rattle.smp_moves.proofs.Entries.{frame_order}
 use Rattle.smp_flight.specs.Laws.Firsts.{all_in, contains_in, in_contains}
-use Rattle.smp_flight.proofs.Free.{filter_in, out_filter}
-use Rattle.smp_flight.specs.Laws.WholeOrders.{in_order_going}
+use Rattle.smp_flight.proofs.Free.{filter_in}
 use Rattle.smp_flight.specs.Laws.Windowed.{in_append_left, in_append_right, in_one}
-use Rattle.smp_localcube.specs.Local.{front_of, is_one_of, order_around, untouched}
+use Rattle.smp_moves.specs.Moves.{IsOrder}
+use Rattle.smp_localcube.specs.Local.{IsCarried, front_of, head_of, is_one_of, order_around, untouched}
 use Rattle.smp_localcube.specs.Kept.Orders.{is_untouched}
 
 -- ---- lists
@@ -57,32 +57,45 @@ apart_append (x ∷ xs) ys a b cross =
 
 -- ---- the front of an order
 
-pub front_in : (touched : List ℕ) (head k : ℕ) → is_in (front_of touched head) k ≡ true → (k ≡ head)
-    ⊎ (is_in touched k ≡ true)
-front_in [] head k h =
-    elim (cases_eq head k) [
-      | inl e ↦ inl (sym e)
-      | inr ne ↦ absurd (let none : is_in [] k ≡ true = rw (ne_eqb head k ne) at h in true≢false (sym none))
-    ]
-front_in (u ∷ touched) head k h = inr h
+-- the front of a search with this head: fractional units, each once, which are the touched ones and the head, and no others
+pub record HasHead (s : Shares) (touched : List ℕ) (head : ℕ) : Type 0 where
+  pub is_order : IsOrder s (front_of touched head)
+  pub first : is_in (front_of touched head) head ≡ true
+  pub has : (k : ℕ) → is_in touched k ≡ true → is_in (front_of touched head) k ≡ true
+  pub alone : (k : ℕ) → is_in (front_of touched head) k ≡ true → (k ≡ head) ⊎ (is_in touched k ≡ true)
 
-pub front_has : (touched : List ℕ) (head k : ℕ) → is_in touched k ≡ true → is_in (front_of touched head) k ≡ true
-front_has [] head k h = absurd (true≢false (sym h))
-front_has (u ∷ touched) head k h = h
-
--- a head is touched, or no unit is
-abbrev pub IsHead : List ℕ → ℕ → Type 0
-IsHead [] head = Unit {0}
-IsHead (u ∷ touched) head = u ≡ head
-
-pub front_head : (touched : List ℕ) (head : ℕ) → IsHead touched head → is_in (front_of touched head) head ≡ true
-front_head [] head is = in_one head
-front_head (u ∷ touched) head is = or_left (nat_eq u head) (is_in touched head) (eq-eqb u head is)
-
-front_distinct : (touched : List ℕ) (head : ℕ) → AllPairs (λ k m. k ≢ m) touched
-    → AllPairs (λ k m. k ≢ m) (front_of touched head)
-front_distinct [] head d i j e l m = absurd (omega (arith, l, m))
-front_distinct (u ∷ touched) head d i j e l m = d i j e l m
+pub has_head : (s : Shares) (touched : List ℕ) (chosen : Option ℕ) (head : ℕ) → IsCarried s touched chosen
+    → head_of touched chosen ≡ Some head → HasHead s touched head
+has_head s [] None head carried is = absurd (cc)
+has_head s [] (Some unit) head carried is =
+    let going : is_fractional s head ≡ true =
+    subst (λ (u : ℕ). is_fractional s u ≡ true) (ap (λ o. unwrap_or o unit) is) carried.chosen_is in
+    record {
+      is_order = record {
+        going = all_in (λ k. is_fractional s k ≡ true) (head ∷ [])
+            (λ k h. subst (λ (u : ℕ). is_fractional s u ≡ true) (lone head k h) going);
+        distinct = λ i j d l m. absurd (omega (arith, l, m));
+      };
+      first = in_one head;
+      has = λ k h. absurd (true≢false (sym h));
+      alone = λ k h. inl (sym (lone head k h));
+    }
+  where
+    lone : (head k : ℕ) → is_in (head ∷ []) k ≡ true → head ≡ k
+    lone head k h =
+        elim (cases_eq head k) [
+          | inl e ↦ e
+          | inr ne ↦ absurd (let none : is_in [] k ≡ true = rw (ne_eqb head k ne) at h in true≢false (sym none))
+        ]
+has_head s (u ∷ touched) chosen head carried is = record {
+  is_order = subst (IsOrder s) (sym carried.touched_are) (record {
+    going = All-filter (is_one_of (u ∷ touched)) (λ k. is_fractional s k ≡ true) (fractional_units s) (frame_order s).going;
+    distinct = AllPairs-filter (λ k m. k ≢ m) (is_one_of (u ∷ touched)) (fractional_units s) (frame_order s).distinct;
+  });
+  first = or_left (nat_eq u head) (is_in touched head) (eq-eqb u head (ap (λ o. unwrap_or o u) is));
+  has = λ k h. h;
+  alone = λ k h. inr h;
+}
 
 -- ---- the untouched units
 
@@ -118,32 +131,11 @@ module _ (coords : List (List ℤ)) (s : Shares) (touched : List ℕ) where
       and_from (not (nat_eq k head)) (is_living (untouched coords s touched) k) (rw (ne_eqb k head ne) refl)
       (untouched_at k ∙ and_from (is_fractional s k) (not (is_one_of touched k)) h (rw out refl))
 
--- a touched unit is fractional
-pub carried_going : (s : Shares) (touched : List ℕ) → touched ≡ filter (is_one_of touched) (fractional_units s)
-    → (k : ℕ) → is_in touched k ≡ true → is_fractional s k ≡ true
-carried_going s touched are k h =
-    let there : is_in (filter (is_one_of touched) (fractional_units s)) k ≡ true =
-    subst (λ (us : List ℕ). is_in us k ≡ true) are h in
-    in_order_going s (fractional_units s) (frame_order s) k (out_filter (is_one_of touched) (fractional_units s) k there).0
-
 -- ---- the whole order
 
-module _ (coords : List (List ℤ)) (s : Shares) (touched : List ℕ) (head : ℕ)
-    (are : touched ≡ filter (is_one_of touched) (fractional_units s)) (open_at : is_fractional s head ≡ true)
-    (is_head : IsHead touched head) where
+module _ (coords : List (List ℤ)) (s : Shares) (touched : List ℕ) (head : ℕ) (has : HasHead s touched head) where
   abbrev others : List ℕ
   others = neighbours (untouched coords s touched) head
-
-  touched_distinct : AllPairs (λ k m. k ≢ m) touched
-  touched_distinct = subst (AllPairs (λ k m. k ≢ m)) (sym are)
-      (AllPairs-filter (λ k m. k ≢ m) (is_one_of touched) (fractional_units s) (frame_order s).distinct)
-
-  front_going : (k : ℕ) → is_in (front_of touched head) k ≡ true → is_fractional s k ≡ true
-  front_going k h =
-      elim (front_in touched head k h) [
-        | inl e ↦ subst (λ (u : ℕ). is_fractional s u ≡ true) (sym e) open_at
-        | inr t ↦ carried_going s touched are k t
-      ]
 
   other_at : (m : ℕ) → is_in others m ≡ true → (m ≢ head) × (is_fractional s m ≡ true) × (is_one_of touched m ≡ false)
   other_at m h =
@@ -154,7 +146,7 @@ module _ (coords : List (List ℤ)) (s : Shares) (touched : List ℕ) (head : �
   apart : (k m : ℕ) → is_in (front_of touched head) k ≡ true → is_in others m ≡ true → k ≢ m
   apart k m h g e =
       let other = other_at m g in
-      elim (front_in touched head k h) [
+      elim (has.alone k h) [
         | inl is ↦ other.0 (sym e ∙ is)
         | inr t ↦ both_ways (is_one_of touched m) other.2 (subst (λ (u : ℕ). is_in touched u ≡ true) e t)
       ]
@@ -162,20 +154,18 @@ module _ (coords : List (List ℤ)) (s : Shares) (touched : List ℕ) (head : �
   pub whole : IsWholeOrder s (order_around coords s touched head)
   whole = record {
     is_order = record {
-      going = All-append (λ k. is_fractional s k ≡ true) (front_of touched head) others
-          (all_in (λ k. is_fractional s k ≡ true) (front_of touched head) front_going)
+      going = All-append (λ k. is_fractional s k ≡ true) (front_of touched head) others has.is_order.going
           (all_in (λ k. is_fractional s k ≡ true) others (λ m g. (other_at m g).1));
-      distinct = apart_append (front_of touched head) others (front_distinct touched head touched_distinct)
+      distinct = apart_append (front_of touched head) others has.is_order.distinct
           (neighbours_distinct (untouched coords s touched) head) apart;
     };
     all = λ k h.
         in_contains (order_around coords s touched head) k
         (elim (cases_Bool (is_in touched k)) [
-          | inl t ↦ in_append_left (front_of touched head) others k (front_has touched head k t)
+          | inl t ↦ in_append_left (front_of touched head) others k (has.has k t)
           | inr out ↦ elim (cases_eq k head) [
             | inl e ↦ in_append_left (front_of touched head) others k
-                (subst (λ (u : ℕ). is_in (front_of touched head) u ≡ true) (sym e)
-                (front_head touched head is_head))
+                (subst (λ (u : ℕ). is_in (front_of touched head) u ≡ true) (sym e) has.first)
             | inr ne ↦ in_append_right (front_of touched head) others k
                 (contains_in others k (neighbours_all (untouched coords s touched) head k
                 (is_other_of coords s touched head k ne h out)))

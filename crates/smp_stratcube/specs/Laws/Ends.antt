@@ -75,10 +75,12 @@ module _ (n : ℕ) (values : List Value) (are : AreValues n values) (den : ℕ) 
   on_unit k ne =
       elim (place_or line.units k) [
         | inr out ↦ absurd (ne (off_line s line ok k out))
-        | inl h ↦ subst (λ (x : ℕ). ((value values x).at.den ∣ den) × (x < length values)) h.2
-            (divides h.0 h.1, fractional_in values (get_or line.units h.0 0)
-            (sym (over_fractional n values are den some (get_or line.units h.0 0) (divides h.0 h.1))
-                ∙ order_going s line.units ok.order h.0 h.1))
+        | inl h ↦ subst (λ (x : ℕ). ((value values x).at.den ∣ den) × (x < length values)) h.2 (
+          divides h.0 h.1,
+          fractional_in values (get_or line.units h.0 0)
+              (sym (over_fractional n values are den some (get_or line.units h.0 0) (divides h.0 h.1))
+              ∙ order_going s line.units ok.order h.0 h.1),
+        )
       ]
 
   pub after_values : AreValues n after

@@ -120,7 +120,7 @@ module _ (units : Units) (values : List Value) (ok : IsPairing units values) (le
         (subst (λ (c : ℕ). Same both (over c p.state.den)) sum
         (plus_over (get_or p.state.numer i 0) (get_or p.state.numer j 0) p.state.den)))
         (same_trans (same_sym (plus_over (get_or s.numer i 0) (get_or s.numer j 0) den))
-            (plus_same (step_value i i_one) (step_value j j_one))))
+        (plus_same (step_value i i_one) (step_value j j_one))))
 
   -- two parts
   module _ (x y : Part Shares) (lawful : LawfulParts (steps_tree n) (IsValues n (2 ^ 80)) s (x ∷ y ∷ []))
@@ -234,15 +234,22 @@ module _ (units : Units) (values : List Value) (ok : IsPairing units values) (le
       (parts_of units values (i ∷ j ∷ []))
   meeting_sums =
       let sum : (new : ℕ × ℕ) → new.0 + new.1 ≡ a + b
-          → get_or (with_pair both i j new).numer i 0 + get_or (with_pair both i j new).numer j 0 ≡ a + b =
-      λ new e. omega (arith, two_at_i both.numer i j new.0 new.1 m.apart i_in j_in,
-          two_at_j both.numer i j new.0 new.1 m.apart i_in j_in, e) in
+      → get_or (with_pair both i j new).numer i 0 + get_or (with_pair both i j new).numer j 0 ≡ a + b =
+      λ new e. omega (
+        arith,
+        two_at_i both.numer i j new.0 new.1 m.apart i_in j_in,
+        two_at_j both.numer i j new.0 new.1 m.apart i_in j_in,
+        e,
+      ) in
       let kept = λ (p : Part Shares). sum_kept units values ok left (i ∷ j ∷ []) m p in (
         kept _ lawful.each.0 (settles_two (pair_first a b both.den) numbers.first_falls) i j (first_among i (j ∷ [])) (second_among i j [])
             (sum (pair_first a b both.den) (omega arith)),
-        (kept _ lawful.each.1.0 (settles_two (pair_second a b both.den) numbers.second_falls) i j
-            (first_among i (j ∷ [])) (second_among i j [])
-            (sum (pair_second a b both.den) (omega arith)), tt),
+        (
+          kept _ lawful.each.1.0 (settles_two (pair_second a b both.den) numbers.second_falls) i j
+              (first_among i (j ∷ [])) (second_among i j [])
+              (sum (pair_second a b both.den) (omega arith)),
+          tt,
+        ),
       )
 
 pub step_split : (units : Units) (values : List Value) (ok : IsPairing units values) (left : ℕ) (ks : List ℕ) → IsStep units values ks

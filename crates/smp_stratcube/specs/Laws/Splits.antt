@@ -24,8 +24,6 @@ use Rattle.smp_stratcube.specs.Laws.Meetings.{step_split}
 use Rattle.smp_stratcube.specs.Laws.Pairs.{step_is}
 use Rattle.smp_moves.proofs.Computed.{few_by}
 use Rattle.smp_moves.proofs.Flights.{lone_split}
-use Rattle.smp_stratcube.specs.Cube.{cube_by}
-use Rattle.smp_stratcube.specs.Laws.Nexts.{each_step}
 use Rattle.smp_stratcube.specs.Moves.{setting_of}
 
 -- ---- where no direction is left
@@ -56,17 +54,25 @@ module _ (units : Units) (f : Flight) (ok : IsFlying units f) where
       λ k opened here n. subst (λ (x : ℕ). (value vs k).at.den ∣ slice_index_or units.firsts x 1) here
       (fresh_divides units f ok k (fractional_in vs k opened) n) in
       elim (cases_eq (state % first_h) 0) [
-        | inl e ↦ omega (arith, ok.narrow, most state (common_some units ok.are (length units.members) vs ok.values [])
-            (λ k opened here. elim (cases_Bool (value vs k).touched) [
-              | inl t ↦ (touched k opened t).1
-              | inr n ↦ dvd_trans (value vs k).at.den (fresh k opened here n) (dvd_of_mod-eq-zero first_h e)
-            ]))
-        | inr ne ↦ omega (arith, (ok.are.firsts h).1, most first_h (ok.are.firsts h).0
-            (λ k opened here. elim (cases_Bool (value vs k).touched) [
-              | inr n ↦ fresh k opened here n
-              | inl t ↦ absurd (ne (mod-eq-zero_of_dvd first_h
-                  (subst (λ (x : ℕ). slice_index_or units.firsts x 1 ∣ state) here (touched k opened t).0)))
-            ]))
+        | inl e ↦ omega (
+          arith,
+          ok.narrow,
+          most state (common_some units ok.are (length units.members) vs ok.values [])
+              (λ k opened here. elim (cases_Bool (value vs k).touched) [
+                | inl t ↦ (touched k opened t).1
+                | inr n ↦ dvd_trans (value vs k).at.den (fresh k opened here n) (dvd_of_mod-eq-zero first_h e)
+              ]),
+        )
+        | inr ne ↦ omega (
+          arith,
+          (ok.are.firsts h).1,
+          most first_h (ok.are.firsts h).0
+              (λ k opened here. elim (cases_Bool (value vs k).touched) [
+                | inr n ↦ fresh k opened here n
+                | inl t ↦ absurd (ne (mod-eq-zero_of_dvd first_h
+                    (subst (λ (x : ℕ). slice_index_or units.firsts x 1 ∣ state) here (touched k opened t).0)))
+              ]),
+        )
       ]
 
   pub wide_pairing : IsPairing units f.values
@@ -87,11 +93,11 @@ module _ (units : Units) (f : Flight) (ok : IsFlying units f) where
   split_by left going (move m) is = move_split units f ok left m is
   split_by left going independent is =
       let some = some_row is going in
-      lone_split (cube_by each_step units) (next units) (IsBalancing units) (flying f left)
-      (flying (dropped f) (landed (fractional_count f.values) left)) refl
+      lone_split (strat_tree units) (IsBalancing units) (flying f left)
+      (flying (dropped f) (landed (fractional_count f.values) left)) (λ k. refl)
       (omega (arith, some)) dropped_flight
-  split_by left going wide is = lone_split (cube_by each_step units) (next units) (IsBalancing units) (flying f left)
-      (pairing f.values (landed (fractional_count f.values) left)) refl (omega arith) wide_pairing
+  split_by left going wide is = lone_split (strat_tree units) (IsBalancing units) (flying f left)
+      (pairing f.values (landed (fractional_count f.values) left)) (λ k. refl) (omega arith) wide_pairing
 
 -- ---- all states
 

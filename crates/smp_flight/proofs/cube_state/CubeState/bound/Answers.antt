@@ -6,8 +6,8 @@ use Rattle.smp_flight.proofs.cube_state.CubeState.bound.Goals as goal
 
 pub overflow_add-result : goal.overflow_add-result
 overflow_add-result c =
-    let ok : IsFlight c.args.shape.now c.self.inside.flight.flight = rw (← c.self.view_is, c.in-Flying.is) at c.requires.state in
+    let ok : IsFlight c.args.shape.now c.self.inside.landing.flight.flight = rw (← c.self.view_is, c.in-Flying.is) at c.requires.state in
     let e = rw c.in-Move.is at c.step.ensures.is in
-    let both = both_ways c.args.shape.now c.self.inside.flight.flight c.self.inside.left
-    (fractional_units c.self.inside.flight.flight.values) ok (frame_order c.self.inside.flight.flight.values) (move_of c.in-Move.mv) (sym e) in
+    let both = both_ways c.args.shape.now c.self.inside.landing.flight.flight c.self.inside.landing.left
+    (fractional_units c.self.inside.landing.flight.flight.values) ok (frame_order c.self.inside.landing.flight.flight.values) (move_of c.in-Move.mv) (sym e) in
     omega (arith, both.bound)

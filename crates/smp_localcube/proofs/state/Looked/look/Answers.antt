@@ -1,9 +1,9 @@
 use Rattle.std.proofs.Common.{◌≡◌, ◌+◌, ◌≤◌, Some, None, length, lit<, arith, sym, ap, ◌∙◌, subst}
 use Rattle.std.specs.Prelude.{option_map}
 use Rattle.smp_flight.specs.{States.{Units}, Answers.{Allows, IsMoveOf}}
-use Rattle.smp_localcube.specs.{Local.{head_of}, Kept.States.{order_units, step_around, touched_in}, Laws.Splits.{has_head}}
+use Rattle.smp_localcube.specs.{Local.{head_of}, Kept.States.{next_around, order_units, touched_in}, Laws.Orders.{has_head}}
 use Rattle.smp_localcube.proofs.Around.{touched_rising, window_within}
-use Rattle.smp_localcube.proofs.state.look.Goals as goal
+use Rattle.smp_localcube.proofs.state.Looked.look.Goals as goal
 
 pub rising-touched-requires-clause-within : goal.rising-touched-requires-clause-within
 rising-touched-requires-clause-within g c k h =
@@ -22,14 +22,14 @@ pub returns-in-None : goal.returns-in-None
 returns-in-None g c =
     let touched : order_units c.rising-touched.result ≡ touched_in c.args.flight.now = (rw (c.window.ensures.is, c.units.ensures) at c.rising-touched.ensures.are) ∙ touched_rising c.args.flight.now c.window.ensures.order in
     let e : head_of (touched_in c.args.flight.now) c.args.chosen ≡ None = ap (λ t. head_of t c.args.chosen) (sym touched) ∙ sym c.head.ensures ∙ c.in-None.is in
-    record { is = ap (option_map (step_around c.args.flight.now.flight.fixed c.args.points.now.coords c.args.flight.now)) (sym e); allows = tt }
+    record { is = ap (option_map (next_around c.args.flight.now.flight.fixed c.args.points.now.coords c.args.flight.now.flight (touched_in c.args.flight.now))) (sym e); allows = tt }
 
 pub returns-in-Some : goal.returns-in-Some
 returns-in-Some g c =
     let touched : order_units c.rising-touched.result ≡ touched_in c.args.flight.now = (rw (c.window.ensures.is, c.units.ensures) at c.rising-touched.ensures.are) ∙ touched_rising c.args.flight.now c.window.ensures.order in
     let e : head_of (touched_in c.args.flight.now) c.args.chosen ≡ Some c.in-Some.head = ap (λ t. head_of t c.args.chosen) (sym touched) ∙ sym c.head.ensures ∙ c.in-Some.is in
     record {
-      is = ap (λ n. Some n) (c.step_from.ensures.is ∙ ap (λ (u : Units). step_around u c.args.points.now.coords c.args.flight.now c.in-Some.head) (sym c.requires.flight.fixed_is))
-          ∙ ap (option_map (step_around c.args.flight.now.flight.fixed c.args.points.now.coords c.args.flight.now)) (sym e);
+      is = ap (λ n. Some n) (c.step_from.ensures.is ∙ ap (λ (u : Units). next_around u c.args.points.now.coords c.args.flight.now.flight (touched_in c.args.flight.now) c.in-Some.head) (sym c.requires.flight.fixed_is))
+          ∙ ap (option_map (next_around c.args.flight.now.flight.fixed c.args.points.now.coords c.args.flight.now.flight (touched_in c.args.flight.now))) (sym e);
       allows = subst (λ (u : Units). Allows (IsMoveOf u c.args.flight.now) u c.args.flight.now c.step_from.result) (sym c.requires.flight.fixed_is) c.step_from.ensures.allows;
     }
