@@ -89,11 +89,11 @@ impl Request {
             Same (over (slice_index list.items place) (common_denominator self.now))
             (free_fraction self.now place))) }
     {
-        let mut list = Vec::new(alloc);
         if self.free.as_slice().is_empty() {
-            return Ok(list);
+            return Ok(Vec::new(alloc));
         }
         let factor = self.r as u128 / self.common_divisor();
+        let mut list = Vec::with_capacity(alloc, self.shape.as_slice().len())?;
         for &shape in self.shape.as_slice() {
             list.push(shape as u128 * factor)?;
         }
