@@ -59,6 +59,7 @@ pub(crate) fn prob_in(
 }
 
 /// The values in asked columns. The row has this number.
+#[inline(always)]
 pub(crate) fn values_in(
     alloc: Global,
     number: u64,
