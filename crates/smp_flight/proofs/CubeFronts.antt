@@ -1,18 +1,18 @@
 -- The search of the cube goes in the order of the frame, so after a move it begins with what is left of the units that it began with and went through.
-use Rattle.std.proofs.Common.{◌≡◌, ◌≢◌, ℕ, ◌≤◌, Bool, true, false, ◌⊎◌, List, ◌++◌, take, drop, length, arith, sym, ap, ◌∙◌, subst, inl, inr}
+use Rattle.std.proofs.Common.{◌≡◌, ◌≢◌, ℕ, Bool, true, false, List, ◌++◌, take, drop, length, arith, sym, ap, ◌∙◌, subst, inl, inr, max}
 use Rattle.std.specs.List.{filter, range_with_len}
-use Rattle.std.proofs.{lemmas.Bool.{cases_lt}, lemmas.List.{take-append-drop}, lemmas.List.Elements.{filter-append, filter_passes}}
-use Rattle.std.proofs.lemmas.List.Kept.{AllPairs-filter}
+use Rattle.std.proofs.{lemmas.Bool.{cases_lt}, lemmas.List.{take-append-drop, take-take}, lemmas.List.Kept.{AllPairs-filter}}
+use Rattle.std.proofs.lemmas.List.Elements.{filter-append, filter_passes}
 use Rattle.smp_prob.specs.Shares.{Shares}
 use Rattle.smp_split.specs.Trees.{EachPart}
-use Rattle.smp_split.specs.declared.kind.Kind.TheVariants as kind
 use Rattle.smp_values.specs.Values.{fractional_units, is_fractional}
 use Rattle.smp_moves.specs.{Cubes.{flying, pairing, flight_parts, values_in}, Moves.{Move, Next, independent, move}}
 use Rattle.smp_moves.proofs.{Entries.{frame_order as in_frame, order_front}, Filtered.{filter_twice}, Flights.{flies_not, no_choice}}
 use Rattle.smp_flight.specs.{Kept.Windows.{is_in}, Laws.Nexts.{IsKnown}, Selections.{Balancing, IsBalancing, shares_cube}}
 use Rattle.smp_flight.specs.{States.{Flight, IsFlight, Units}, Steps.{chosen, next, next_on}, Laws.ByOrder.{ends_at, knows}}
 use Rattle.smp_flight.proofs.{Free.{in_filter, out_filter}, NeverWide.{IsNextFront, KeepsFront}}
-use Rattle.smp_flight.specs.{Laws.Firsts.{changed_in, in_front, within_front}, Cube.{cube_kind, cube_of}}
+use Rattle.smp_flight.specs.{Laws.Firsts.{changed_in, in_front, within_front, in_take}, Cube.{cube_kind, cube_of}}
+use Rattle.smp_split.specs.declared.kind.Kind.TheVariants as kind
 
 -- a search begins with these units
 abbrev pub IsFront : Balancing → List ℕ → Type 0
@@ -43,43 +43,29 @@ module _ (units : Units) (f : Flight) (left : ℕ) (ok : IsFlight units f) (held
         ap (λ n. filter (is_fractional t) (range_with_len 0 n)) (ends_at units f left us ok (in_frame f.values) m is plus).moved.same_length
         ∙ sym (filter_twice (is_fractional f.values) (is_fractional t) fewer (range_with_len 0 (length f.values.numer)))
 
-    -- what is left of so many of the first
-    with_first : (n : ℕ) → ((k : ℕ) → is_in (take n us) k ≡ true → (is_in held k ≡ true) ⊎ (is_in m.direction.units k ≡ true)) →
-        ((k : ℕ) → (is_in held k ≡ true) ⊎ (is_in m.direction.units k ≡ true) → is_in (take n us) k ≡ true) → IsNextFront (cube_of units) IsFront held m (flying (chosen units f m plus) left)
-    with_first n alone has = record {
-      list = filter (is_fractional t) (take n us);
-      is_front = (filter (is_fractional t) (drop n us), still ∙ ap (filter (is_fractional t)) (sym (take-append-drop n us)) ∙ filter-append (is_fractional t) (take n us) (drop n us));
-      order = record {
-        going = filter_passes (is_fractional t) (take n us);
-        distinct = AllPairs-filter (λ k l. k ≢ l) (is_fractional t) (take n us) (order_front f.values us (in_frame f.values) n).distinct;
-      };
-      alone = λ k h. alone k (out_filter (is_fractional t) (take n us) k h).0;
-      all = λ k e h. in_filter (is_fractional t) (take n us) k (has k (elim h [ inl x ↦ inl x | inr ne ↦ inr (changed_in m.direction k ne) ])) e;
-    }
-
+    -- what is left of so many of the first that it has all of these
     next_front : IsNextFront (cube_of units) IsFront held m (flying (chosen units f m plus) left)
     next_front =
-        let n : ℕ = length it.circuit in
-        let prefix : m.direction.units ≡ take (length it.circuit) us = it.is.direction.prefix in
-        elim (cases_lt (length held) (length it.circuit)) [
-          | inl l ↦
-              (let long : length held ≤ length it.circuit = omega (arith, l) in
-              with_first (length it.circuit) (λ k h. inr (subst (λ (xs : List ℕ). is_in xs k ≡ true) (sym prefix) h))
-              (λ k h. elim h [
-                | inl x ↦ subst (λ (xs : List ℕ). is_in (take (length it.circuit) xs) k ≡ true) (sym begins.1) (in_front (length it.circuit) held begins.0 k long x)
-                | inr x ↦ subst (λ (xs : List ℕ). is_in xs k ≡ true) prefix x
-              ]))
-          | inr g ↦
-              (let same : length held ≤ length held = omega arith in
-              let in_held : (k : ℕ) → (is_in held k ≡ true) ⊎ (is_in m.direction.units k ≡ true) → is_in held k ≡ true =
-              λ k h. elim h [
-                | inl x ↦ x
-                | inr x ↦ within_front (length it.circuit) held begins.0 k g (subst (λ (xs : List ℕ). is_in (take (length it.circuit) xs) k ≡ true) begins.1 (subst (λ (xs : List ℕ). is_in xs k ≡ true) prefix x))
-              ] in
-              with_first (length held)
-              (λ k h. inl (within_front (length held) held begins.0 k same (subst (λ (xs : List ℕ). is_in (take (length held) xs) k ≡ true) begins.1 h)))
-              (λ k h. subst (λ (xs : List ℕ). is_in (take (length held) xs) k ≡ true) (sym begins.1) (in_front (length held) held begins.0 k same (in_held k h))))
-        ]
+        let c : ℕ = length it.circuit in
+        let n : ℕ = max (length held) (length it.circuit) in
+        record {
+          list = filter (is_fractional t) (take n us);
+          is_front = (filter (is_fractional t) (drop n us), still ∙ ap (filter (is_fractional t)) (sym (take-append-drop n us)) ∙ filter-append (is_fractional t) (take n us) (drop n us));
+          order = record {
+            going = filter_passes (is_fractional t) (take n us);
+            distinct = AllPairs-filter (λ k l. k ≢ l) (is_fractional t) (take n us) (order_front f.values us (in_frame f.values) n).distinct;
+          };
+          alone = λ k h.
+              (let x = (out_filter (is_fractional t) (take n us) k h).0 in
+              elim (cases_lt (length held) (length it.circuit)) [
+                | inl l ↦ (let e : max (length held) (length it.circuit) ≡ length it.circuit = omega (arith, l) in inr (subst (λ (xs : List ℕ). is_in xs k ≡ true) (ap (λ i. take i us) e ∙ sym it.is.direction.prefix) x))
+                | inr g ↦ inl (within_front n held begins.0 k (omega (arith, g)) (subst (λ (xs : List ℕ). is_in (take n xs) k ≡ true) begins.1 x))
+              ]);
+          all = λ k e h. in_filter (is_fractional t) (take n us) k (elim h [
+            | inl x ↦ subst (λ (xs : List ℕ). is_in (take n xs) k ≡ true) (sym begins.1) (in_front n held begins.0 k (omega arith) x)
+            | inr some ↦ in_take c (take n us) k (subst (λ (xs : List ℕ). is_in xs k ≡ true) (it.is.direction.prefix ∙ sym (take-take c n us (omega arith))) (changed_in m.direction k some))
+          ]) e;
+        }
 
   both_fronts : EachPart (λ p. IsNextFront (cube_of units) IsFront held m p.state) (flight_parts (shares_cube units) f left (move m))
   both_fronts = (next_front true, (next_front false, tt))

@@ -13,9 +13,9 @@ use Rattle.smp_prob.specs.Shares.{Shares}
 use Rattle.smp_values.specs.Values.{is_fractional}
 use Rattle.smp_values.proofs.Fractional.{not_fractional}
 use Rattle.smp_moves.specs.{Kept.Ends.{MakesWhole}, Moves.{IsOrder, entry_at}}
-use Rattle.smp_moves.proofs.Entries.{entry_at_none, entry_at_place, order_within}
+use Rattle.smp_moves.proofs.Entries.{entry_at_none, entry_at_place, order_within, numbers_apart}
 use Rattle.smp_flight.specs.{Kept.Windows.{is_in}, States.{Units, IsUnits, column, columns_of, size}, Laws.Firsts.{contains_in, in_range}}
-use Rattle.smp_flight.proofs.Gained.{AddsUp, all_units, dot_mix, fair, fair_is, gained, map_same, part, part_is, unit_inside, units_apart}
+use Rattle.smp_flight.proofs.Gained.{AddsUp, all_units, dot_mix, fair, fair_is, gained, map_same, part, part_is, unit_inside}
 use Rattle.smp_flight.specs.{Laws.MoveTotals.{number_in}, Laws.Reordered.{same_dot, sum_at}, Laws.Windowed.{in_or}}
 use Rattle.smp_flight.proofs.Narrow.{order_from}
 
@@ -50,7 +50,7 @@ module _ (units : Units) (are : IsUnits units) (multiple : ℕ) (of_denominator 
   us = has.list
 
   abbrev ks : List ℕ
-  ks = all_units units are multiple of_denominator of_sizes
+  ks = all_units units
 
   abbrev start : ℕ
   start = fair units are multiple of_denominator of_sizes
@@ -121,13 +121,13 @@ module _ (units : Units) (are : IsUnits units) (multiple : ℕ) (of_denominator 
         let ys : List ℤ = map (number_in units row) ks in
         let inside : dot (unit row) (combination weights (cut q (columns_of units us))) ≡ dot (map (entry_at us weights) ks) (map (number_in units row) ks) =
         unit_dot (combination weights (cut q (columns_of units us))) row
-        ∙ sum_at (length units.sizes) us ks us_inside (unit_inside units are multiple of_denominator of_sizes) has.order.distinct (units_apart units are multiple of_denominator of_sizes)
+        ∙ sum_at (length units.sizes) us ks us_inside (unit_inside units) has.order.distinct (numbers_apart (length units.sizes))
         (λ k h. in_range (length units.sizes) k (let at = in_or us k h in omega (arith, us_inside at.place at.here, at.is))) weights weights_long units q weights us row l
-        ∙ sym (same_dot (length units.sizes) us ks us_inside (unit_inside units are multiple of_denominator of_sizes) has.order.distinct (units_apart units are multiple of_denominator of_sizes)
+        ∙ sym (same_dot (length units.sizes) us ks us_inside (unit_inside units) has.order.distinct (numbers_apart (length units.sizes))
         (λ k h. in_range (length units.sizes) k (let at = in_or us k h in omega (arith, us_inside at.place at.here, at.is))) weights weights_long (number_in units row)) in
         let beside : dot (unit row) vector ≡ dot (map outer ks) (map (number_in units row) ks) =
         unit_dot vector row
-        ∙ sum_at (length units.sizes) us ks us_inside (unit_inside units are multiple of_denominator of_sizes) has.order.distinct (units_apart units are multiple of_denominator of_sizes)
+        ∙ sum_at (length units.sizes) us ks us_inside (unit_inside units) has.order.distinct (numbers_apart (length units.sizes))
         (λ k h. in_range (length units.sizes) k (let at = in_or us k h in omega (arith, us_inside at.place at.here, at.is))) weights weights_long units q (map outer ks) ks row l in
         sym (unit_dot (combination (weights ++ neg_ℤ (pos t.den) ∷ []) (cut q (columns_of units us) ++ vector ∷ [])) row)
         ∙ combination_push (unit row) weights (cut q (columns_of units us)) vector (neg_ℤ (pos t.den)) (weights_long ∙ sym (length-map (columns_of units us) _ ∙ length-map us _))
@@ -135,7 +135,7 @@ module _ (units : Units) (are : IsUnits units) (multiple : ℕ) (of_denominator 
         ∙ sym (dot_mix (neg_ℤ (pos t.den)) (entry_at us weights) outer ks (map (number_in units row) ks))
         ∙ ap (λ xs. dot xs (map (number_in units row) ks))
         (map_same (λ k. entry_at us weights k +ℤ neg_ℤ (pos t.den) *ℤ outer k) (gained units are multiple of_denominator of_sizes t) ks
-        (λ j m. term_is (get_or ks j 0) (unit_inside units are multiple of_denominator of_sizes j m)))
+        (λ j m. term_is (get_or ks j 0) (unit_inside units j m)))
         ∙ adds row l
 
     relation : IsRelationOn (InForce q) (cut q (columns_of units us) ++ vector ∷ []) (weights ++ neg_ℤ (pos t.den) ∷ [])

@@ -1,42 +1,25 @@
 -- Where a move ends, the columns of the units that are still fractional are independent, of those that its search went through, or after a dropped row of all.
-use Rattle.std.proofs.Common.{◌≡◌, ◌≢◌, ℕ, suc, ◌+◌, ◌*◌, ◌<◌, Bool, true, false, ◌&&◌, List, [], ◌∷◌, ◌++◌, ℤ, pos, ◌*ℤ◌, map, take, length, length-take, get_or, arith, refl, sym, ap, ◌∙◌, subst, inl, inr}
+use Rattle.std.proofs.Common.{◌≡◌, ◌≢◌, ℕ, suc, ◌+◌, ◌*◌, ◌<◌, Bool, true, false, List, [], ◌∷◌, ◌++◌, ℤ, pos, ◌*ℤ◌, map, take, length, length-take, get_or, arith, refl, sym, ap, ◌∙◌, subst, inl, inr}
 use Rattle.std.specs.List.{filter}
-use Rattle.std.proofs.lemmas.Bool.{and_from, and_parts, and_right, cases_Bool, cases_eq, eq-eqb, ne_eqb, true≢false}
-use Rattle.std.proofs.lemmas.List.{get_or-map, length-map, length-take-le, take-map, take_more}
+use Rattle.std.proofs.{lemmas.Bool.{cases_Bool, true≢false}, lemmas.List.{get_or-map, length-map, take-map, take_more}}
 use Prim.Native.Nat.{◌∣◌}
 use lib.IntN.{*ℤ_comm, *ℤ-zero}
 use Rattle.smp_kernel.specs.{Vectors.{entry, dot}, RowReduction.{cut, AreIndependent, InForce, IsRelationOn}, Minors.{keep}}
 use Rattle.smp_kernel.specs.Searches.{found}
-use Rattle.smp_kernel.proofs.{FoundCircuits.{circuit_length, circuit_row, cut_circuit_short, in_row}, OneRelation.{fewer_rows, without_one}}
-use Rattle.smp_kernel.proofs.{Ring.{*ℤ_assoc, positive_some, zero_of_product, zero_right}, SearchLaw.{together}}
+use Rattle.smp_kernel.proofs.{FoundCircuits.{circuit_length}, OneRelation.{fewer_rows, without_one}, SearchLaw.{together}}
+use Rattle.smp_kernel.proofs.Ring.{*ℤ_assoc, positive_some, zero_of_product, zero_right}
 use Rattle.smp_prob.specs.Shares.{Shares}
 use Rattle.smp_values.specs.Values.{fractional_units, is_fractional}
 use Rattle.smp_moves.specs.{Ends.{end_of}, Kept.Ends.{IsOver}, Moves.{IsLine, IsOrder, Line, entry_at, entry_of}, Steps.{Finds}}
-use Rattle.smp_moves.proofs.Entries.{entry_at_none, entry_at_place, frame_order, off_line, on_line, order_within, place_or}
+use Rattle.smp_moves.proofs.Entries.{entry_at_none, entry_at_place, frame_order, off_line, on_line, place_or, numbers_apart}
 use Rattle.smp_moves.proofs.{LineEnds.{reached, settled_unit}, Moved.{same_still}}
 use Rattle.smp_flight.specs.{Kept.Windows.{is_in}, Moves.{setting_of}, States.{Units, Flight, IsFlight, IsUnits, column, columns_of, size}}
-use Rattle.smp_flight.specs.{Laws.Nexts.{flight_over}, Laws.Firsts.{fractional_in, in_range}, Laws.MoveTotals.{number_in, numbers_are}}
-use Rattle.smp_flight.proofs.Gained.{all_units, dot_scaled, map_same, part, part_is, unit_inside, units_apart}
-use Rattle.smp_flight.specs.{Laws.Reordered.{same_dot, sum_at}, Laws.Windowed.{in_or}, Laws.WholeOrders.{in_order_going}}
+use Rattle.smp_flight.specs.{Laws.Nexts.{flight_over, order_inside}, Laws.Firsts.{fractional_in, in_range, in_order_going}}
+use Rattle.smp_flight.specs.{Laws.Windowed.{in_or}, Laws.MoveTotals.{number_in, circuit_count, none_in}, Laws.Reordered.{same_dot, sum_at}}
+use Rattle.smp_flight.proofs.Gained.{all_units, dot_scaled, map_same, part, part_is, unit_inside}
+pub use Rattle.smp_flight.specs.Laws.Firsts.{filter_in, in_filter, out_filter}
 
 -- ---- what is kept of some columns
-pub filter_in : (p : ℕ → Bool) (us : List ℕ) (k : ℕ) → is_in (filter p us) k ≡ (is_in us k && p k)
-filter_in p [] k = refl
-filter_in p (u ∷ us) k =
-    elim (cases_eq u k) [
-      | inl e ↦ elim (cases_Bool (p k)) [
-        | inl t ↦ rw (e, t, eq-eqb k k refl) refl
-        | inr n ↦ rw (e, n, eq-eqb k k refl) (filter_in p us k ∙ and_right (is_in us k) (p k) n)
-      ]
-      | inr ne ↦ elim (cases_Bool (p u)) [ inl t ↦ rw (t, ne_eqb u k ne) (filter_in p us k) | inr n ↦ rw (n, ne_eqb u k ne) (filter_in p us k) ]
-    ]
-
-pub in_filter : (p : ℕ → Bool) (us : List ℕ) (k : ℕ) → is_in us k ≡ true → p k ≡ true → is_in (filter p us) k ≡ true
-in_filter p us k h t = filter_in p us k ∙ and_from (is_in us k) (p k) h t
-
-pub out_filter : (p : ℕ → Bool) (us : List ℕ) (k : ℕ) → is_in (filter p us) k ≡ true → (is_in us k ≡ true) × (p k ≡ true)
-out_filter p us k h = and_parts (is_in us k) (p k) (sym (filter_in p us k) ∙ h)
-
 keep_is : (units : Units) (q : ℕ) (p : ℕ → Bool) (us : List ℕ) → keep (map p us) (cut q (columns_of units us)) ≡ cut q (columns_of units (filter p us))
 keep_is units q p [] = refl
 keep_is units q p (u ∷ us) =
@@ -47,10 +30,6 @@ keep_is units q p (u ∷ us) =
 
 length_cut : (units : Units) (q : ℕ) (us : List ℕ) → length (cut q (columns_of units us)) ≡ length us
 length_cut units q us = length-map (columns_of units us) (take q) ∙ length-map us (column units)
-
-pub line_count : (units : Units) (f : Flight) (order : List ℕ) (w : List ℤ) → Finds (setting_of units) f order (found w) → (line : Line) → line.units ≡ take (length w) order → length line.units ≡ length w
-line_count units f order w finds line prefix =
-    ap length prefix ∙ length-take-le (length w) order (omega (arith, cut_circuit_short f.rows (columns_of units order) w finds, length-map order (column units)))
 
 scale_at : (g e y : ℤ) (p z m : ℕ) → g *ℤ e ≡ pos z *ℤ y → z * p ≡ m → g *ℤ (pos p *ℤ e) ≡ pos m *ℤ y
 scale_at g e y p z m h same =
@@ -67,21 +46,15 @@ module _ (units : Units) (f : Flight) (is_flight : IsFlight units f) (order : Li
   is_over = flight_over units f is_flight
 
   units_count : length line.units ≡ length w
-  units_count = line_count units f order w finds line prefix
+  units_count = circuit_count units f order w finds line.units prefix
 
   inside : (j : ℕ) → j < length line.units → get_or line.units j 0 < length units.sizes
-  inside j l = omega (arith, order_within f.values line.units line_ok.order j l, is_flight.values.count)
-
-  none_in : (row : ℕ) → row < f.rows → dot w (map (number_in units row) line.units) ≡ pos 0
-  none_in row l =
-      ap (λ ks. dot w (map (number_in units row) ks)) prefix
-      ∙ ap (dot w) (sym (numbers_are units row (take (length w) order))) ∙ ap (λ cs. dot w (in_row row cs)) (sym (take-map (column units) (length w) order))
-      ∙ circuit_row f.rows (columns_of units order) w finds row l
+  inside = order_inside units f is_flight line.units line_ok.order
 
   -- ---- the parts of the line add up to 0
   module _ (are : IsUnits units) (multiple : ℕ) (of_denominator : units.requested.den ∣ multiple) (of_sizes : (k : ℕ) → k < length units.sizes → size units k ∣ multiple) where
     abbrev ks : List ℕ
-    ks = all_units units are multiple of_denominator of_sizes
+    ks = all_units units
 
     abbrev its_part : ℕ → ℕ
     its_part = part units are multiple of_denominator of_sizes
@@ -104,11 +77,11 @@ module _ (units : Units) (f : Flight) (is_flight : IsFlight units f) (order : Li
         zero_of_product g (dot (map (λ k. pos (its_part k) *ℤ entry_of line k) ks) (map (number_in units row) ks)) some_g
         (sym (dot_scaled g (λ k. pos (its_part k) *ℤ entry_of line k) ks (map (number_in units row) ks))
         ∙ ap (λ xs. dot xs (map (number_in units row) ks))
-        (map_same (λ k. g *ℤ (pos (its_part k) *ℤ entry_of line k)) (λ k. pos multiple *ℤ entry_at line.units w k) ks (λ j m. scaled (get_or ks j 0) (unit_inside units are multiple of_denominator of_sizes j m)))
+        (map_same (λ k. g *ℤ (pos (its_part k) *ℤ entry_of line k)) (λ k. pos multiple *ℤ entry_at line.units w k) ks (λ j m. scaled (get_or ks j 0) (unit_inside units j m)))
         ∙ dot_scaled (pos multiple) (entry_at line.units w) ks (map (number_in units row) ks)
         ∙ zero_right (pos multiple) (dot (map (entry_at line.units w) ks) (map (number_in units row) ks))
-        (same_dot (length units.sizes) line.units ks inside (unit_inside units are multiple of_denominator of_sizes) line_ok.order.distinct (units_apart units are multiple of_denominator of_sizes)
-        (λ k h. in_range (length units.sizes) k (let at = in_or line.units k h in omega (arith, inside at.place at.here, at.is))) w (sym units_count) (number_in units row) ∙ none_in row l))
+        (same_dot (length units.sizes) line.units ks inside (unit_inside units) line_ok.order.distinct (numbers_apart (length units.sizes))
+        (λ k h. in_range (length units.sizes) k (let at = in_or line.units k h in omega (arith, inside at.place at.here, at.is))) w (sym units_count) (number_in units row) ∙ none_in units f order w finds line.units prefix row l))
 
   -- ---- the unit that is settled
   abbrev pub place : ℕ
@@ -154,7 +127,7 @@ module _ (units : Units) (f : Flight) (is_flight : IsFlight units f) (order : Li
   us = fractional_units f.values
 
   us_inside : (j : ℕ) → j < length us → get_or us j 0 < length units.sizes
-  us_inside j l = omega (arith, order_within f.values us (frame_order f.values) j l, is_flight.values.count)
+  us_inside = order_inside units f is_flight us (frame_order f.values)
 
   us_have : (k : ℕ) → is_in line.units k ≡ true → is_in us k ≡ true
   us_have k h = fractional_in f.values k (in_order_going f.values line.units line_ok.order k h)
@@ -168,14 +141,14 @@ module _ (units : Units) (f : Flight) (is_flight : IsFlight units f) (order : Li
     λ row l.
         (let more : row < suc f.rows = omega (arith, l) in
         sum_at (length units.sizes) line.units us inside us_inside line_ok.order.distinct (frame_order f.values).distinct us_have w (sym units_count) units (suc f.rows) factors us row more
-        ∙ same_dot (length units.sizes) line.units us inside us_inside line_ok.order.distinct (frame_order f.values).distinct us_have w (sym units_count) (number_in units row) ∙ none_in row l),
+        ∙ same_dot (length units.sizes) line.units us inside us_inside line_ok.order.distinct (frame_order f.values).distinct us_have w (sym units_count) (number_in units row) ∙ none_in units f order w finds line.units prefix row l),
   )
 
   pub its_relation : IsRelationOn (InForce f.rows) (cut f.rows (columns_of units line.units)) w
   its_relation = (
     sym units_count ∙ sym (length_cut units f.rows line.units),
     λ row l.
-        sum_at (length units.sizes) line.units us inside us_inside line_ok.order.distinct (frame_order f.values).distinct us_have w (sym units_count) units f.rows w line.units row l ∙ none_in row l,
+        sum_at (length units.sizes) line.units us inside us_inside line_ok.order.distinct (frame_order f.values).distinct us_have w (sym units_count) units f.rows w line.units row l ∙ none_in units f order w finds line.units prefix row l,
   )
 
   -- a row more changes nothing in the rows in force

@@ -1,6 +1,6 @@
 -- What the values of a flight have gained since its start, over a common denominator of all shares: in each row in force it adds up to 0.
 use Rattle.std.proofs.Common.{◌≡◌, ◌≢◌, ℕ, suc, ◌+◌, ◌*◌, ◌/◌, ◌<◌, ◌≤◌, max, List, [], ◌∷◌, ℤ, pos, neg_ℤ, ◌+ℤ◌, ◌*ℤ◌, map, length, get_or, arith, refl, sym, ap, ap₂, ◌∙◌, suc-le-suc, mul-pos}
-use Rattle.std.specs.List.{AllPairs, range_with_len}
+use Rattle.std.specs.List.{range_with_len}
 use Rattle.std.proofs.{lemmas.Int.{ints}, lemmas.List.FromFn.{length-range_with_len, get_or-range_with_len}, Math.Nat.{mul-div_cancel'}}
 use Prim.Native.Nat.{◌∣◌}
 use lib.IntN.{*ℤ-zero, zero-*ℤ}
@@ -73,6 +73,14 @@ gain n d m c t r p x e pd pc pr h =
 
 -- ---- all units
 
+abbrev pub all_units : Units → List ℕ
+all_units units = range_with_len 0 (length units.sizes)
+
+pub unit_inside : (units : Units) (j : ℕ) → j < length (all_units units) → get_or (all_units units) j 0 < length units.sizes
+unit_inside units j l =
+    let e : get_or (range_with_len 0 (length units.sizes)) j 0 ≡ 0 + j = get_or-range_with_len 0 (length units.sizes) j 0 (omega (arith, l, length-range_with_len 0 (length units.sizes))) in
+    omega (arith, e, l, length-range_with_len 0 (length units.sizes))
+
 module _ (units : Units) (are : IsUnits units) (multiple : ℕ) (of_denominator : units.requested.den ∣ multiple) (of_sizes : (k : ℕ) → k < length units.sizes → size units k ∣ multiple) where
   -- the multiple over a size
   abbrev pub part : ℕ → ℕ
@@ -95,40 +103,24 @@ module _ (units : Units) (are : IsUnits units) (multiple : ℕ) (of_denominator 
   abbrev pub gained : Shares → ℕ → ℤ
   gained t k = pos (get_or t.numer k 0 * part k) +ℤ neg_ℤ (pos (t.den * fair))
 
-  abbrev pub all_units : List ℕ
-  all_units = range_with_len 0 (length units.sizes)
-
-  pub unit_at : (j : ℕ) → j < length all_units → get_or all_units j 0 ≡ j
-  unit_at j l =
-      let e : get_or (range_with_len 0 (length units.sizes)) j 0 ≡ 0 + j = get_or-range_with_len 0 (length units.sizes) j 0 (omega (arith, l, length-range_with_len 0 (length units.sizes))) in
-      omega (arith, e)
-
-  pub unit_inside : (j : ℕ) → j < length all_units → get_or all_units j 0 < length units.sizes
-  unit_inside j l = omega (arith, unit_at j l, l, length-range_with_len 0 (length units.sizes))
-
-  pub units_apart : AllPairs (λ k l. k ≢ l) all_units
-  units_apart i j d l m =
-      let b : j < length units.sizes = omega (arith, m, length-range_with_len 0 (length units.sizes)) in
-      rw (get_or-range_with_len 0 (length units.sizes) i d (omega (arith, l, b)), get_or-range_with_len 0 (length units.sizes) j d b) (λ e. (let same : 0 + i ≡ 0 + j = e in omega (arith, l, same)))
-
   -- in so many rows it adds up to 0
   abbrev pub AddsUp : Shares → ℕ → Type 0
-  AddsUp t rows = (row : ℕ) → row < rows → dot (map (gained t) all_units) (map (number_in units row) all_units) ≡ pos 0
+  AddsUp t rows = (row : ℕ) → row < rows → dot (map (gained t) (all_units units)) (map (number_in units row) (all_units units)) ≡ pos 0
 
   none_gained : (a b : ℕ) → a ≡ b → pos a +ℤ neg_ℤ (pos b) ≡ pos 0
   none_gained a b e = omega (arith, ints)
 
   pub start_adds : (rows : ℕ) → AddsUp units.requested rows
   start_adds rows row l =
-      ap (λ xs. dot xs (map (number_in units row) all_units))
-      (map_same (gained units.requested) (λ k. pos 0) all_units (λ j m.
-      let k : ℕ = get_or all_units j 0 in
-      let b : get_or all_units j 0 < length units.sizes = unit_inside j m in
-      let e : get_or units.requested.numer (get_or all_units j 0) 0 * part (get_or all_units j 0) ≡ size units (get_or all_units j 0) * are.factor * part (get_or all_units j 0) =
-      ap (λ x. x * part (get_or all_units j 0)) (are.proportional (get_or all_units j 0) b) in
-      let f : size units (get_or all_units j 0) * part (get_or all_units j 0) * are.factor ≡ multiple * are.factor = ap (λ x. x * are.factor) (part_is (get_or all_units j 0) b) in
-      none_gained (get_or units.requested.numer (get_or all_units j 0) 0 * part (get_or all_units j 0)) (units.requested.den * fair) (omega (arith, e, f, fair_is))))
-      ∙ dot_none all_units (map (number_in units row) all_units)
+      ap (λ xs. dot xs (map (number_in units row) (all_units units)))
+      (map_same (gained units.requested) (λ k. pos 0) (all_units units) (λ j m.
+      let k : ℕ = get_or (all_units units) j 0 in
+      let b : get_or (all_units units) j 0 < length units.sizes = unit_inside units j m in
+      let e : get_or units.requested.numer (get_or (all_units units) j 0) 0 * part (get_or (all_units units) j 0) ≡ size units (get_or (all_units units) j 0) * are.factor * part (get_or (all_units units) j 0) =
+      ap (λ x. x * part (get_or (all_units units) j 0)) (are.proportional (get_or (all_units units) j 0) b) in
+      let f : size units (get_or (all_units units) j 0) * part (get_or (all_units units) j 0) * are.factor ≡ multiple * are.factor = ap (λ x. x * are.factor) (part_is (get_or (all_units units) j 0) b) in
+      none_gained (get_or units.requested.numer (get_or (all_units units) j 0) 0 * part (get_or (all_units units) j 0)) (units.requested.den * fair) (omega (arith, e, f, fair_is))))
+      ∙ dot_none (all_units units) (map (number_in units row) (all_units units))
 
   -- ---- along a line whose parts add up to 0
   module _ (s t : Shares) (line : Line) (r : Ratio) (some : 1 ≤ s.den) (some_r : 1 ≤ r.den) (m : IsMoved units.requested.den s line r t) where
@@ -138,14 +130,14 @@ module _ (units : Units) (are : IsUnits units) (multiple : ℕ) (of_denominator 
     not_none : pos (s.den * r.den) ≢ pos 0
     not_none e = (let p : 1 ≤ s.den * r.den = mul-pos some some_r in absurd (omega (arith, ints)))
 
-    pub still_adds : (rows : ℕ) → AddsUp s rows → ((row : ℕ) → row < rows → dot (map (λ k. pos (part k) *ℤ entry_of line k) all_units) (map (number_in units row) all_units) ≡ pos 0) → AddsUp t rows
+    pub still_adds : (rows : ℕ) → AddsUp s rows → ((row : ℕ) → row < rows → dot (map (λ k. pos (part k) *ℤ entry_of line k) (all_units units)) (map (number_in units row) (all_units units)) ≡ pos 0) → AddsUp t rows
     still_adds rows before along row l =
-        let ys : List ℤ = map (number_in units row) all_units in
-        zero_of_product (pos (s.den * r.den)) (dot (map (gained t) all_units) (map (number_in units row) all_units)) not_none
-        (sym (dot_scaled (pos (s.den * r.den)) (gained t) all_units (map (number_in units row) all_units))
-        ∙ ap (λ xs. dot xs (map (number_in units row) all_units)) (map_same (λ k. pos (s.den * r.den) *ℤ gained t k)
-        (λ k. pos (t.den * r.den) *ℤ gained s k +ℤ pos (s.den * t.den * r.num) *ℤ (pos (part k) *ℤ entry_of line k)) all_units (λ j _. gain_of (get_or all_units j 0)))
-        ∙ dot_mix (pos (s.den * t.den * r.num)) (λ k. pos (t.den * r.den) *ℤ gained s k) (λ k. pos (part k) *ℤ entry_of line k) all_units (map (number_in units row) all_units)
-        ∙ ap (λ x. x +ℤ pos (s.den * t.den * r.num) *ℤ dot (map (λ k. pos (part k) *ℤ entry_of line k) all_units) (map (number_in units row) all_units)) (dot_scaled (pos (t.den * r.den)) (gained s) all_units (map (number_in units row) all_units))
-        ∙ both_none (dot (map (gained s) all_units) (map (number_in units row) all_units)) (dot (map (λ k. pos (part k) *ℤ entry_of line k) all_units) (map (number_in units row) all_units))
+        let ys : List ℤ = map (number_in units row) (all_units units) in
+        zero_of_product (pos (s.den * r.den)) (dot (map (gained t) (all_units units)) (map (number_in units row) (all_units units))) not_none
+        (sym (dot_scaled (pos (s.den * r.den)) (gained t) (all_units units) (map (number_in units row) (all_units units)))
+        ∙ ap (λ xs. dot xs (map (number_in units row) (all_units units))) (map_same (λ k. pos (s.den * r.den) *ℤ gained t k)
+        (λ k. pos (t.den * r.den) *ℤ gained s k +ℤ pos (s.den * t.den * r.num) *ℤ (pos (part k) *ℤ entry_of line k)) (all_units units) (λ j _. gain_of (get_or (all_units units) j 0)))
+        ∙ dot_mix (pos (s.den * t.den * r.num)) (λ k. pos (t.den * r.den) *ℤ gained s k) (λ k. pos (part k) *ℤ entry_of line k) (all_units units) (map (number_in units row) (all_units units))
+        ∙ ap (λ x. x +ℤ pos (s.den * t.den * r.num) *ℤ dot (map (λ k. pos (part k) *ℤ entry_of line k) (all_units units)) (map (number_in units row) (all_units units))) (dot_scaled (pos (t.den * r.den)) (gained s) (all_units units) (map (number_in units row) (all_units units)))
+        ∙ both_none (dot (map (gained s) (all_units units)) (map (number_in units row) (all_units units))) (dot (map (λ k. pos (part k) *ℤ entry_of line k) (all_units units)) (map (number_in units row) (all_units units)))
         (pos (t.den * r.den)) (pos (s.den * t.den * r.num)) (before row l) (along row l))

@@ -9,16 +9,16 @@ use Rattle.smp_kernel.proofs.{Ring.{positive_some, zero_or}, TableSizes.{limit_u
 use Rattle.smp_prob.specs.Shares.{Shares}
 use Rattle.smp_values.specs.Values.{fractional_units, is_fractional}
 use Rattle.smp_moves.specs.{Ends.{end_of, extent}, Kept.Ends.{IsOver}, Moves.{IsGreatest, IsLine, IsMoved, IsOrder, Line, entry_of, turned}}
-use Rattle.smp_moves.proofs.{Entries.{entry_turned, frame_order, order_within, turned_line}, LineEnds.{greatest, moved}}
-use Rattle.smp_moves.proofs.{Moved.{end_within, keeps_fractional, keeps_still}, Fixed.{one_greatest}}
-use Rattle.smp_flight.specs.{Kept.Windows.{is_in}, Laws.Entries.{entry-sized, sized_entries}, Kept.Steps.{sized}, Moves.{setting_of}}
-use Rattle.smp_kernel.specs.Reduced.{IsReduced}
+use Rattle.smp_moves.proofs.{Entries.{entry_turned, frame_order, turned_line}, LineEnds.{greatest, moved}, Fixed.{one_greatest}}
+use Rattle.smp_moves.proofs.Moved.{end_within, keeps_fractional, keeps_still}
+use Rattle.smp_flight.specs.{Kept.Windows.{is_in}, Laws.Entries.{entry_sized}, Moves.{setting_of}}
 use Rattle.smp_flight.specs.{Laws.Nexts.{direction_line, flight_over}, Narrow.{IsNarrow, IsWideByDenominator}, Laws.OneMove.{one_end}}
 use Rattle.smp_moves.specs.{Steps.{Finds, IsDirection}, declared.lines.Ratio.{Ratio}}
 use Rattle.smp_flight.specs.{States.{Units, Flight, IsFlight, IsUnits, columns_of, row_count, size}, Laws.Reordered.{independent_as}}
 use Rattle.smp_flight.proofs.{Denominators.{HasFree, IsTouched, small_denominator}, Gained.{AddsUp, still_adds}}
-use Rattle.smp_flight.specs.{Laws.Firsts.{changed_in, fractional_in, in_front, within_front}, Laws.WholeOrders.{in_order_going}}
-use Rattle.smp_flight.proofs.Free.{all_free, factor_some, front_free, in_filter, line_count, parts_add_up, place, its_relation}
+use Rattle.smp_flight.specs.Laws.Firsts.{changed_in, fractional_in, in_front, in_order_going, within_front}
+use Rattle.smp_flight.proofs.Free.{all_free, factor_some, front_free, in_filter, parts_add_up, place, its_relation}
+use Rattle.smp_flight.specs.Laws.MoveTotals.{circuit_count}
 
 -- ---- the line of a circuit, or its opposite
 pub record IsAlong (units : Units) (order : List ℕ) (w : List ℤ) (line : Line) : Type 0 where
@@ -36,24 +36,21 @@ turned_some : (g : ℤ) → g ≢ pos 0 → neg_ℤ g ≢ pos 0
 turned_some g some e = some (omega (arith, ints))
 
 module _ (units : Units) (order : List ℕ) (w : List ℤ) (line : Line) (d : IsDirection (setting_of units).share order w line) (count : length line.units ≡ length w) where
-  own : IsReduced (sized units line.units w) line.entries
-  own = sized_entries units order w line d
-
   pub along_it : IsAlong units order w line
   along_it = record {
     prefix = d.prefix;
-    factor = own.divisor;
-    some = positive_some own.divisor own.positive;
-    product = λ j l. own.product j ∙ entry-sized units line.units w j l (omega (arith, l, count));
+    factor = d.entries.divisor;
+    some = positive_some d.entries.divisor d.entries.positive;
+    product = λ j l. d.entries.product j ∙ entry_sized units line.units w j l (omega (arith, l, count));
   }
 
   pub against_it : IsAlong units order w (turned line)
   against_it = record {
     prefix = d.prefix;
-    factor = neg_ℤ own.divisor;
-    some = turned_some own.divisor (positive_some own.divisor own.positive);
-    product = λ j l. ap (λ x. neg_ℤ own.divisor *ℤ x) (entry_turned line.entries j) ∙ both_turned own.divisor (entry line.entries j)
-        ∙ own.product j ∙ entry-sized units line.units w j l (omega (arith, l, count));
+    factor = neg_ℤ d.entries.divisor;
+    some = turned_some d.entries.divisor (positive_some d.entries.divisor d.entries.positive);
+    product = λ j l. ap (λ x. neg_ℤ d.entries.divisor *ℤ x) (entry_turned line.entries j) ∙ both_turned d.entries.divisor (entry line.entries j)
+        ∙ d.entries.product j ∙ entry_sized units line.units w j l (omega (arith, l, count));
   }
 
 -- a value that stays what it was is touched only where it was so before
@@ -81,12 +78,6 @@ module _ (units : Units) (are : IsUnits units) (n : IsNarrow units) where
     over_it : IsOver units.requested.den f.values
     over_it = flight_over units f is_flight
 
-    held_inside : (j : ℕ) → j < length held → get_or held j 0 < length units.sizes
-    held_inside j l = omega (arith, order_within f.values held h.order j l, is_flight.values.count)
-
-    line_inside : (j : ℕ) → j < length line.units → get_or line.units j 0 < length units.sizes
-    line_inside j l = omega (arith, order_within f.values line.units line_ok.order j l, is_flight.values.count)
-
     -- a search goes through all of them
     beside : AreIndependent f.rows (cut f.rows (columns_of units held)) → (k : ℕ) → is_in held k ≡ true → is_in line.units k ≡ true
     beside ind k e =
@@ -97,7 +88,7 @@ module _ (units : Units) (are : IsUnits units) (n : IsNarrow units) where
               absurd (let has : (x : ℕ) → is_in line.units x ≡ true → is_in held x ≡ true =
               λ x i. within_front (length w) held rest x m (subst (λ (us : List ℕ). is_in us x ≡ true) whole i) in
               let free : AreIndependent f.rows (cut f.rows (columns_of units line.units)) =
-              independent_as units f.rows (length units.sizes) line.units held line_inside held_inside line_ok.order.distinct h.order.distinct has ind in
+              independent_as units f.rows f.values line.units held line_ok.order h.order has ind in
               factor_some units f is_flight order ordered w finds line a.prefix line_ok a.factor a.some a.product
               (free w (its_relation units f is_flight order ordered w finds line a.prefix line_ok a.factor a.some a.product)
               (place units f is_flight order ordered w finds line a.prefix line_ok a.factor a.some a.product)))
@@ -178,9 +169,7 @@ module _ (units : Units) (are : IsUnits units) (n : IsNarrow units) where
       order = ok;
       touched = λ k e tch. all k e (touched_on k e tch);
       adds = adds_there;
-      free = inl (independent_as units f.rows (length units.sizes) next free_after.list
-          (λ j l. omega (arith, order_within t next ok j l, count_there)) (λ j l. omega (arith, order_within t free_after.list free_after.listed j l, count_there)) ok.distinct free_after.listed.distinct
-          (λ k e. free_after.has k (in_order_going t next ok k e) (alone k e)) free_after.free);
+      free = inl (independent_as units f.rows t next free_after.list ok free_after.listed (λ k e. free_after.has k (in_order_going t next ok k e) (alone k e)) free_after.free);
     }
 
   -- ---- no step is wide
@@ -195,7 +184,7 @@ module _ (units : Units) (are : IsUnits units) (n : IsNarrow units) where
       let over_it = flight_over units f is_flight in
       let ok : IsLine f.values b.m.direction = direction_line units f.values order ordered b.circuit b.m.direction b.is.direction in
       let back : IsLine f.values (turned b.m.direction) = turned_line f.values b.m.direction ok in
-      let count : length b.m.direction.units ≡ length b.circuit = line_count units f order b.circuit b.finds b.m.direction b.is.direction.prefix in
+      let count : length b.m.direction.units ≡ length b.circuit = circuit_count units f order b.circuit b.finds b.m.direction.units b.is.direction.prefix in
       let plus : b.plus_end ≡ end_of units.requested.den f.values b.m.direction =
       end_fixed f.values over_it b.m.direction ok b.m.up b.plus_end b.is.up b.is.plus_moved in
       let minus : b.minus_end ≡ end_of units.requested.den f.values (turned b.m.direction) =

@@ -6,9 +6,8 @@ use Rattle.smp_frac.specs.Limits.{most_entry}
 use Rattle.smp_kernel.specs.{Vectors.{entry, Within}, RowReduction.{cut}, Searches.{found}, Minors.{IsFrom, AreFrom, minor_limit}}
 use Rattle.smp_kernel.proofs.{Limits.{entry_within, Within-from_entries}, TableSizes.{limit_upto}, SearchSizes.{found_within, not_too_wide}}
 use Rattle.smp_moves.specs.{Moves.{Line, IsOrder}, Steps.{Finds, IsDirection, IsWide}}
-use Rattle.smp_moves.proofs.Entries.{order_within}
 use Rattle.smp_flight.specs.{States.{Units, Flight, IsFlight, IsUnits, column, columns_of, row_count, size}, Moves.{setting_of}}
-use Rattle.smp_flight.specs.{Laws.Entries.{entry-sized, sized_entries}, Laws.Nexts.{narrow_line}, Narrow.{IsNarrow, IsWideByDenominator}}
+use Rattle.smp_flight.specs.{Laws.Entries.{entry_sized}, Laws.Nexts.{narrow_line, order_inside}, Narrow.{IsNarrow, IsWideByDenominator}}
 
 -- ---- the direction
 reduced_at : (g x : ℤ) (s : ℕ) (y : ℤ) (z b : ℕ) → pos 0 <ℤ g → g *ℤ x ≡ pos s *ℤ y → s ≤ z → unsigned_abs y ≤ b → unsigned_abs x ≤ z * b
@@ -22,12 +21,11 @@ reduced_at g x s y z b p e h k =
 
 pub direction_within : (units : Units) (order : List ℕ) (w : List ℤ) (line : Line) → IsDirection (setting_of units).share order w line → (z b : ℕ) → ((k : ℕ) → size units k ≤ z) → Within b w → Within (z * b) line.entries
 direction_within units order w line d z b sizes within =
-    let own = sized_entries units order w line d in
     Within-from_entries (z * b) line.entries (λ j l.
     let lu : j < length line.units = omega (arith, l, d.lengths) in
     let lw : j < length w = omega (arith, lu, ap length d.prefix, length-take (length w) order) in
-    reduced_at own.divisor (entry line.entries j) (size units (get_or line.units j 0)) (entry w j) z b own.positive
-    (own.product j ∙ entry-sized units line.units w j lu lw) (sizes (get_or line.units j 0)) (entry_within b w within j))
+    reduced_at d.entries.divisor (entry line.entries j) (size units (get_or line.units j 0)) (entry w j) z b d.entries.positive
+    (d.entries.product j ∙ entry_sized units line.units w j lu lw) (sizes (get_or line.units j 0)) (entry_within b w within j))
 
 -- ---- the columns
 module _ (units : Units) (bound : ℕ → ℕ) (from : (k : ℕ) → k < length units.sizes → IsFrom bound (column units k)) where
@@ -56,12 +54,12 @@ module _ (units : Units) (bound : ℕ → ℕ) (from : (k : ℕ) → k < length 
 at_most : (a b c : ℕ) → a ≤ b → b ≤ c → a ≤ c
 at_most a b c h l = omega arith
 
-times_more : (a p : ℕ) → 1 ≤ a → p ≤ a * p
+pub times_more : (a p : ℕ) → 1 ≤ a → p ≤ a * p
 times_more a p h = let same : p ≤ p = omega arith in let t : 1 * p ≤ a * p = mul-le-mul h same in omega arith
 
 module _ (units : Units) (n : IsNarrow units) (s : Flight) (order : List ℕ) (is_flight : IsFlight units s) (ok : IsOrder s.values order) where
   columns_from : AreFrom n.bound (cut s.rows (columns_of units order))
-  columns_from = order_from units n.bound n.from s.rows order (λ j l. omega (arith, order_within s.values order ok j l, is_flight.values.count))
+  columns_from = order_from units n.bound n.from s.rows order (order_inside units s is_flight order ok)
 
   rows_limit : minor_limit n.bound s.rows ≤ minor_limit n.bound (row_count units)
   rows_limit = limit_upto n.bound n.some_bound s.rows (row_count units) is_flight.rows_in

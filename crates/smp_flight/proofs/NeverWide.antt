@@ -4,18 +4,19 @@ use Rattle.std.proofs.lemmas.List.{get_or_past}
 use Rattle.smp_kernel.specs.RowReduction.{cut, AreIndependent}
 use Rattle.smp_prob.specs.Shares.{Shares}
 use Rattle.smp_split.specs.{Parts.{moved}, Paths.{Entry, Leads}, Trees.{Part, EachPart}, Laws.Steps.{leads_belong, leads_keep}}
-use Rattle.smp_split.specs.declared.kind.Kind.TheVariants as kind
 use Rattle.smp_values.specs.Values.{fractional_units, is_fractional, is_settled}
 use Rattle.smp_moves.specs.{Cubes.{flying, pairing, values_in, flight_kind, flight_parts}, Kept.Computed.{dropped}, Ends.{end_of}}
 use Rattle.smp_moves.specs.{Moves.{IsOrder, Move, Next, chosen_line, entry_of, independent, move, turned, wide}, Steps.{IsNext}}
 use Rattle.smp_moves.proofs.{Entries.{turned_line}, Evens.{entry_of_turned}}
 use Rattle.smp_flight.specs.{Kept.Windows.{is_in}, Laws.Nexts.{IsKnown}, Moves.{setting_of}, Narrow.{IsNarrow}, Laws.ByOrder.{some_row}}
 use Rattle.smp_flight.specs.Selections.{Balancing, GoesOn, IsBalancing, IsSelection, IsWholeOrder, Selection, chooses, flies, kind_by, parts_by, shares_cube, starting}
-use Rattle.smp_flight.specs.States as flights
 use Rattle.smp_flight.specs.{States.{Units, Flight, IsFlight, IsUnits, columns_of, row_count}, Steps.{end_at_is, next_on, stepping}}
-use Rattle.smp_flight.proofs.{Free.{line_count}, Gained.{start_adds}, Held.{IsHeld, against_it, along_it, next_held, not_by_denominator}}
-use Rattle.smp_flight.proofs.{Narrow.{by_denominator}, Seen.{each_unmoved}}
+use Rattle.smp_flight.proofs.{Gained.{start_adds}, Held.{IsHeld, against_it, along_it, next_held, not_by_denominator}, Seen.{each_unmoved}}
+use Rattle.smp_flight.proofs.Narrow.{by_denominator}
 use Rattle.smp_flight.specs.{Laws.NextProperties.{independent_columns, known, next_is}, Laws.WholeOrders.{independent_in_frame_order}}
+use Rattle.smp_flight.specs.Laws.MoveTotals.{circuit_count}
+use Rattle.smp_split.specs.declared.kind.Kind.TheVariants as kind
+use Rattle.smp_flight.specs.States as flights
 
 each_both : {State : Type 0} (P Q R : Part State → Type 0) → ((p : Part State) → P p → Q p → R p) → (ps : List (Part State)) → EachPart P ps → EachPart Q ps → EachPart R ps
 each_both P Q R h [] a b = tt
@@ -75,7 +76,7 @@ module _ (units : Units) (are : IsUnits units) (n : IsNarrow units) where
       k = known units f order ok whole_order.is_order m e
 
       count : length m.direction.units ≡ length k.circuit
-      count = line_count units f order k.circuit k.finds m.direction k.is.direction.prefix
+      count = circuit_count units f order k.circuit k.finds m.direction.units k.is.direction.prefix
 
       turned_entry : (i : ℕ) → entry_of (turned m.direction) i ≢ pos 0 → entry_of m.direction i ≢ pos 0
       turned_entry i ne z = ne (entry_of_turned m.direction i ∙ ap neg_ℤ z)

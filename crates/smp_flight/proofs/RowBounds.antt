@@ -1,12 +1,14 @@
 -- Bounds of the rows, and what they come to.
-use Rattle.std.proofs.Common.{◌≡◌, ◌^◌, ℕ, zero, suc, ◌+◌, ◌*◌, ◌<◌, ◌≤◌, max, List, ℤ, pos, ◌≤ℤ◌, length, get_or, arith, inl, inr, mul-le-mul}
+use Rattle.std.proofs.Common.{◌≡◌, ℕ, zero, suc, ◌+◌, ◌*◌, ◌<◌, ◌≤◌, max, fold, List, [], ◌∷◌, ℤ, pos, ◌≤ℤ◌, length, get_or, arith, subst, inl, inr, mul-le-mul, suc-le-suc}
 use Rattle.std.specs.Int.RustNames.{unsigned_abs}
-use Rattle.std.proofs.{lemmas.Bool.{cases_lt}, lemmas.Int.{ints}, lemmas.List.{get_or_past}, lemmas.Nat.Gcd.{le_of_dvd}}
+use Rattle.std.proofs.{lemmas.Bool.{cases_lt}, lemmas.Int.{ints}, lemmas.List.{get_or-map, get_or_past, length-map}}
+use Rattle.std.proofs.lemmas.Nat.Gcd.{le_of_dvd}
 use Rattle.smp_frac.specs.Limits.{most_denominator, most_entry}
 use Rattle.smp_kernel.proofs.TableSizes.{limit_upto}
 use Rattle.smp_kernel.specs.{Minors.{minor_limit, product_below, sign_count}, Vectors.{entry}}
-use Rattle.smp_flight.specs.{Kept.Narrow.{HasNegative, IsCommon, IsLeast, IsRowBound}, Narrow.{IsNarrow}}
+use Rattle.smp_flight.specs.{Kept.Narrow.{IsCommonBelow, IsLeast, IsLimit, IsRowMost, row_most, row_numbers}, Narrow.{IsNarrow}}
 use Rattle.smp_flight.specs.States.{Units, IsUnits, column, row_count}
+use Rattle.smp_flight.proofs.Narrow.{times_more}
 
 -- a row more: from the third on times its number, for half of the permutations
 pub next_limit : (m : ℕ → ℕ) (n places : ℕ) → (n < 2 → places ≡ 1) → (2 ≤ n → places ≡ n + 1) → minor_limit m (suc n) ≡ minor_limit m n * m n * places
@@ -14,12 +16,20 @@ next_limit m zero places few many = (let e = few (omega arith) in rw e (omega ar
 next_limit m (suc zero) places few many = (let e = few (omega arith) in rw e (omega arith))
 next_limit m (suc (suc n)) places few many = (let e = many (omega arith) in rw e (omega arith))
 
--- where a part of the next product passes 128 bits, the whole limit is past the gate
-pub past_limit : (m : ℕ → ℕ) → ((r : ℕ) → 1 ≤ m r) → (row rows : ℕ) → row < rows → (product : ℕ) → product ≤ minor_limit m (suc row) → 2 ^ 128 ≤ product → most_denominator < minor_limit m rows
-past_limit m some row rows l product part past =
-    let next : suc row ≤ rows = omega (arith, l) in
-    let up : minor_limit m (suc row) ≤ minor_limit m rows = limit_upto m some (suc row) rows next in
-    omega (arith, up, part, past)
+-- ---- the greatest of some numbers
+
+from_start : (a : ℕ) (xs : List ℕ) → a ≤ fold max a xs
+from_start a [] = omega arith
+from_start a (x ∷ xs) = (let h = from_start (max a x) xs in omega (arith, h))
+
+each_most : (a : ℕ) (xs : List ℕ) (i : ℕ) → i < length xs → get_or xs i 0 ≤ fold max a xs
+each_most a [] i l = absurd (omega (arith, l))
+each_most a (x ∷ xs) zero l = (let h = from_start (max a x) xs in omega (arith, h))
+each_most a (x ∷ xs) (suc i) l = each_most (max a x) xs i (omega (arith, l))
+
+most_least : (a b : ℕ) (xs : List ℕ) → a ≤ b → ((i : ℕ) → i < length xs → get_or xs i 0 ≤ b) → fold max a xs ≤ b
+most_least a b [] l h = l
+most_least a b (x ∷ xs) l h = most_least (max a x) b xs (let first = h 0 (omega arith) in omega (arith, l, first)) (λ i m. h (suc i) (suc-le-suc m))
 
 -- a number that isn't below 0
 from_zero : (z : ℤ) (b : ℕ) → pos 0 ≤ℤ z → unsigned_abs z ≤ b → (a : ℕ) × (z ≡ pos a) × (a ≤ b)
@@ -28,101 +38,81 @@ from_zero z b s l = (unsigned_abs z, omega (arith, ints), l)
 small_number : (z : ℤ) (a b : ℕ) → z ≡ pos a → a ≤ b → unsigned_abs z ≤ b
 small_number z a b e l = omega (arith, ints, e, l)
 
-module _ (units : Units) (are : IsUnits units) (bounds : List ℕ) (of_rows : (r : ℕ) → r < row_count units → IsRowBound units r (get_or bounds r 0)) where
-  abbrev pub bound : ℕ → ℕ
-  bound r = max 1 (get_or bounds r 0)
+module _ (units : Units) (are : IsUnits units) where
+  pub number_at : (row k : ℕ) → k < length units.sizes → get_or (row_numbers units row) k 0 ≡ unsigned_abs (entry (column units k) row)
+  number_at row k l = get_or-map (λ c. unsigned_abs (entry c row)) units.columns k [] 0 (omega (arith, l, are.paired))
 
-  within : (k : ℕ) → k < length units.sizes → (r : ℕ) → (a : ℕ) × (entry (column units k) r ≡ pos a) × (a ≤ bound r)
-  within k l r =
-      elim (cases_lt r (row_count units)) [
-        | inl m ↦ (let b = of_rows r m in let small = b.each k l in from_zero (entry (column units k) r) (bound r) (b.signs k l) (omega (arith, small)))
-        | inr past ↦ (0, get_or_past (column units k) r (pos 0) (omega (arith, past, are.lengths k l)), omega arith)
-      ]
+  pub row_long : (row : ℕ) → length (row_numbers units row) ≡ length units.sizes
+  row_long row = omega (arith, length-map units.columns (λ c. unsigned_abs (entry c row)), are.paired)
 
   -- within the gates they are narrow
-  pub narrow_by : (limit multiple : ℕ) → limit ≡ minor_limit bound (row_count units) → IsCommon units multiple → get_or bounds 0 0 * limit ≤ most_entry → multiple * limit ≤ most_denominator → IsNarrow units
-  narrow_by limit multiple is common entries denominators =
-      let some : 0 < row_count units = omega arith in
-      let first = of_rows 0 some in
-      let one = first.some in
-      let same : max 1 (get_or bounds 0 0) ≡ get_or bounds 0 0 = omega (arith, one) in
-      record {
-        bound = bound;
-        some_bound = λ r. omega arith;
-        from = within;
-        entries = rw (same, ← is) entries;
-        multiple = multiple;
-        some = common.some;
-        of_denominator = common.of_denominator;
-        of_sizes = common.of_sizes;
-        denominators = rw (← is) denominators;
-      }
+  pub narrow_by : (first limit multiple : ℕ) → IsRowMost units 0 first → IsLimit units (row_count units) limit → IsLeast units multiple → first * limit ≤ most_entry → multiple * limit ≤ most_denominator → IsNarrow units
+  narrow_by first limit multiple f l least entries denominators = record {
+    bound = row_most units;
+    some_bound = λ row. from_start 1 (row_numbers units row);
+    from = λ k m row. elim (cases_lt row (row_count units)) [
+      | inl h ↦
+          (let most = each_most 1 (row_numbers units row) k (omega (arith, m, row_long row)) in
+          from_zero (entry (column units k) row) (row_most units row) (l.signs row h k m) (omega (arith, most, number_at row k m)))
+      | inr past ↦ (0, get_or_past (column units k) row (pos 0) (omega (arith, past, are.lengths k m)), omega arith)
+    ];
+    entries = subst (λ (x : ℕ). x * minor_limit (row_most units) (row_count units) ≤ most_entry) f.is (subst (λ (x : ℕ). first * x ≤ most_entry) l.is entries);
+    multiple = multiple;
+    some = least.common.some;
+    of_denominator = least.common.of_denominator;
+    of_sizes = least.common.of_sizes;
+    denominators = subst (λ (x : ℕ). multiple * x ≤ most_denominator) l.is denominators;
+  }
 
 -- ---- and where the units are narrow, they are within the gates
 
-product_most : (m n : ℕ → ℕ) (q : ℕ) → ((r : ℕ) → r < q → m r ≤ n r) → product_below m q ≤ product_below n q
+product_most : (m n : ℕ → ℕ) (q : ℕ) → ((r : ℕ) → m r ≤ n r) → product_below m q ≤ product_below n q
 product_most m n zero h = omega arith
-product_most m n (suc q) h = mul-le-mul (h q (omega arith)) (product_most m n q (λ r l. h r (omega (arith, l))))
-
-limit_most : (m n : ℕ → ℕ) (q : ℕ) → ((r : ℕ) → r < q → m r ≤ n r) → minor_limit m q ≤ minor_limit n q
-limit_most m n q h = (let same : sign_count q ≤ sign_count q = omega arith in mul-le-mul same (product_most m n q h))
-
-times_more : (a p : ℕ) → 1 ≤ a → p ≤ a * p
-times_more a p h = let same : p ≤ p = omega arith in let t : 1 * p ≤ a * p = mul-le-mul h same in omega arith
+product_most m n (suc q) h = mul-le-mul (h q) (product_most m n q h)
 
 module _ (units : Units) (are : IsUnits units) (n : IsNarrow units) where
   -- no number is below 0
-  pub none_below : (r : ℕ) → HasNegative units r → ⊥
-  none_below r h = (let f = n.from h.unit h.among r in let below = h.below in omega (arith, ints, f.1, below))
+  pub none_below : (k row : ℕ) → k < length units.sizes → (e : ℤ) → entry (column units k) row ≡ e → pos 0 ≤ℤ e
+  none_below k row l e is = (let f = n.from k l row in omega (arith, ints, f.1, is))
 
-  limit_some : 1 ≤ minor_limit n.bound (row_count units)
-  limit_some = (let up : minor_limit n.bound 0 ≤ minor_limit n.bound (row_count units) = limit_upto n.bound n.some_bound 0 (row_count units) (omega arith) in omega (arith, up))
+  small_row : (row : ℕ) → row_most units row ≤ n.bound row
+  small_row row =
+      most_least 1 (n.bound row) (row_numbers units row) (n.some_bound row)
+      (λ k m.
+      (let l : k < length units.sizes = omega (arith, m, row_long units are row) in
+      let f = n.from k l row in
+      let small = small_number (entry (column units k) row) f.0 (n.bound row) f.1 f.2 in
+      omega (arith, small, number_at units are row k l)))
 
-  limit_fits : minor_limit n.bound (row_count units) ≤ most_denominator
-  limit_fits = (let t = times_more n.multiple (minor_limit n.bound (row_count units)) n.some in let d = n.denominators in omega (arith, t, d))
+  least_limit : (rows : ℕ) → minor_limit (row_most units) rows ≤ minor_limit n.bound rows
+  least_limit rows = (let same : sign_count rows ≤ sign_count rows = omega arith in mul-le-mul same (product_most (row_most units) n.bound rows small_row))
 
-  common_fits : n.multiple ≤ most_denominator
+  -- no limit of some rows passes the gate of entries
+  pub limit_within : (rows : ℕ) → rows ≤ row_count units → minor_limit (row_most units) rows ≤ most_entry
+  limit_within rows l =
+      let least = least_limit rows in
+      let all = limit_upto n.bound n.some_bound rows (row_count units) l in
+      let first = times_more (n.bound 0) (minor_limit n.bound (row_count units)) (n.some_bound 0) in
+      let e = n.entries in
+      omega (arith, least, all, first, e)
+
+  pub entries_within : row_most units 0 * minor_limit (row_most units) (row_count units) ≤ most_entry
+  entries_within = (let t = mul-le-mul (small_row 0) (least_limit (row_count units)) in let e = n.entries in omega (arith, t, e))
+
+  -- nor does the multiple pass that of denominators
+  pub common_fits : n.multiple ≤ most_denominator
   common_fits =
       let same : n.multiple ≤ n.multiple = omega arith in
-      let t : n.multiple * 1 ≤ n.multiple * minor_limit n.bound (row_count units) = mul-le-mul same limit_some in
+      let some = limit_upto n.bound n.some_bound 0 (row_count units) (omega arith) in
+      let one : 1 ≤ minor_limit n.bound (row_count units) = omega (arith, some) in
+      let t : n.multiple * 1 ≤ n.multiple * minor_limit n.bound (row_count units) = mul-le-mul same one in
       let d = n.denominators in
       omega (arith, t, d)
 
-  is_common : IsCommon units n.multiple
-  is_common = record { some = n.some; of_denominator = n.of_denominator; of_sizes = n.of_sizes }
-
-  -- a common multiple is within the gate
-  pub multiple_within : ((m : ℕ) → IsCommon units m → most_denominator < m) → ⊥
-  multiple_within h = (let past = h n.multiple is_common in let fits = common_fits in omega (arith, past, fits))
-
-  small_row : (r : ℕ) → r < row_count units → (b : ℕ) → IsRowBound units r b → b ≤ n.bound r
-  small_row r l b is = is.least (n.bound r) (n.some_bound r) (λ k m. let f = n.from k m r in small_number (entry (column units k) r) f.0 (n.bound r) f.1 f.2)
-
-  module _ (bounds : List ℕ) (of_rows : (r : ℕ) → r < row_count units → IsRowBound units r (get_or bounds r 0)) where
-    small : (r : ℕ) → r < row_count units → bound units are bounds of_rows r ≤ n.bound r
-    small r l = (let b = small_row r l (get_or bounds r 0) (of_rows r l) in let some = n.some_bound r in omega (arith, b, some))
-
-    least_limit : minor_limit (bound units are bounds of_rows) (row_count units) ≤ minor_limit n.bound (row_count units)
-    least_limit = limit_most (bound units are bounds of_rows) n.bound (row_count units) small
-
-    -- the limit of minors is within the gate of denominators
-    pub limit_within : most_denominator < minor_limit (bound units are bounds of_rows) (row_count units) → ⊥
-    limit_within past = (let l = least_limit in let fits = limit_fits in omega (arith, past, l, fits))
-
-    -- and so are both products
-    pub entries_within : (limit : ℕ) → limit ≡ minor_limit (bound units are bounds of_rows) (row_count units) → get_or bounds 0 0 * limit ≤ most_entry
-    entries_within limit is =
-        let some : 0 < row_count units = omega arith in
-        let one : get_or bounds 0 0 ≤ n.bound 0 = small_row 0 some (get_or bounds 0 0) (of_rows 0 some) in
-        let l : limit ≤ minor_limit n.bound (row_count units) = rw is least_limit in
-        let t : get_or bounds 0 0 * limit ≤ n.bound 0 * minor_limit n.bound (row_count units) = mul-le-mul one l in
-        let e = n.entries in
-        omega (arith, t, e)
-
-    pub denominators_within : (limit multiple : ℕ) → limit ≡ minor_limit (bound units are bounds of_rows) (row_count units) → IsLeast units multiple → multiple * limit ≤ most_denominator
-    denominators_within limit multiple is least =
-        let m : multiple ≤ n.multiple = le_of_dvd n.some (least.divides n.multiple is_common) in
-        let l : limit ≤ minor_limit n.bound (row_count units) = rw is least_limit in
-        let t : multiple * limit ≤ n.multiple * minor_limit n.bound (row_count units) = mul-le-mul m l in
-        let d = n.denominators in
-        omega (arith, t, d)
+  pub denominators_within : (multiple : ℕ) → IsLeast units multiple → multiple * minor_limit (row_most units) (row_count units) ≤ most_denominator
+  denominators_within multiple least =
+      let common : IsCommonBelow units (length units.sizes) n.multiple = record { some = n.some; of_denominator = n.of_denominator; of_sizes = n.of_sizes } in
+      let m : multiple ≤ n.multiple = le_of_dvd n.some (least.divides n.multiple common) in
+      let t = mul-le-mul m (least_limit (row_count units)) in
+      let d = n.denominators in
+      omega (arith, t, d)

@@ -1,58 +1,60 @@
 -- What a search that found a circuit leads to, and what an answer allows.
-use Rattle.std.proofs.Common.{◌≡◌, ℕ, ◌+◌, ◌≤◌, ◌^◌, false, List, ℤ, pos, take, length, arith, refl, sym, ap, ◌∙◌, subst, length-take}
-use Rattle.std.proofs.lemmas.List.{take-take}
+use Rattle.std.proofs.Common.{◌≡◌, ℕ, ◌+◌, ◌≤◌, ◌^◌, true, false, List, ℤ, pos, take, length, arith, refl, sym, ◌∙◌, subst, length-take}
+use Rattle.std.proofs.{lemmas.Bool.{le-leb}, lemmas.List.{take-take}}
 use Rattle.std.specs.Int.RustNames.{unsigned_abs}
-use Rattle.smp_kernel.specs.{Vectors.{entry, IsZero, Within}, Searches.{found}}
-use Rattle.smp_moves.specs.{Kept.Searches.{search, search_is}, Moves.{IsLine, IsOrder, move, wide}, Ends.{entries_fit}, Steps.{Finds}}
+use Rattle.smp_frac.specs.Limits.{most_denominator}
+use Rattle.smp_kernel.specs.{Vectors.{entry, IsZero}, Searches.{found}}
+use Rattle.smp_moves.specs.{Kept.Searches.{search, search_is}, Moves.{IsLine, IsOrder, move, wide}, Ends.{end_of}, Steps.{Finds, scale_of, scaled}}
+use Rattle.smp_moves.specs.Kept.Computed.{direction_fits, direction_on, next_by, next_through}
 use Rattle.smp_values.specs.Values.{fractional_units}
 use Rattle.smp_values.proofs.Units.{fractional_units_length}
 use Rattle.smp_flight.specs.{States.{AreFirst, Flight, IsFlight, Tracked, Units, columns_of}, Steps.{next_on, next}, Moves.{setting_of}}
-use Rattle.smp_flight.specs.{Kept.Steps.{direction, next_along, next_of, next_by, sized}, declared.steps.Next.{Next as Answer}}
+use Rattle.smp_flight.specs.{Kept.Ends.{next_along}, declared.steps.Next.{Next as Answer}}
 use Rattle.smp_flight.specs.{Answers.{Allows, AreSearched, IsFirstMove, IsMoveOf, answer_of, move_of, IsKeptIn}, Laws.Firsts.{from_each}}
 use Rattle.smp_flight.specs.declared.steps.Next.TheVariants as answers
-use Rattle.smp_moves.proofs.{Entries.{frame_order, order_front}, FirstPlaces.{front_small}, Computed.{circuit_within}}
+use Rattle.smp_moves.proofs.{Entries.{frame_order, order_front}, Computed.{circuit_within, places_prefix, places_small, places_some, places_through, places_wide}}
 use Rattle.smp_flight.proofs.Fitting.{moves_within}
-use Rattle.smp_flight.specs.{Laws.Reordered.{independent_in_frame}, Laws.NextProperties.{independent_columns, known, next_on_front}}
-use Rattle.smp_flight.specs.Laws.Nexts.{direction_sized, line_ok, some_sized}
+use Rattle.smp_flight.specs.{Laws.WholeOrders.{independent_in_frame}, Laws.NextProperties.{independent_columns, known, next_on_front}}
+use Rattle.smp_flight.specs.Laws.Nexts.{line_ok, some_sizes}
 
--- the circuit in the first places of an array, and its line
+-- the circuit in the first places of an array, its line, and the step that it leads to
 pub record IsCircuitOf (units : Units) (s : Flight) (us : List ℕ) (number : ℕ) (w : List ℤ) (n : ℕ) : Type 0 where
   pub fewer : n ≤ number
   pub small : (j : ℕ) → unsigned_abs (entry w j) ≤ 2 ^ 44
-  pub some : IsZero (sized units (take n us) (take n w)) → ⊥
-  pub line : IsLine s.values (direction units (take number us) (take n w))
+  pub some : IsZero (scaled (setting_of units).share (scale_of (setting_of units).share (take n us) (take n w)) (take n us) (take n w)) → ⊥
+  pub line : IsLine s.values (direction_on (setting_of units).share (take n us) (take n w))
+  pub wide : direction_fits (setting_of units).share (take n us) (take n w) ≡ false → wide ≡ next_by (setting_of units) (end_of units.requested.den) (take number us) s
+  pub along : direction_fits (setting_of units).share (take n us) (take n w) ≡ true →
+      next_along units.requested.den s.values (direction_on (setting_of units).share (take n us) (take n w)) ≡ next_by (setting_of units) (end_of units.requested.den) (take number us) s
 
 module _ (units : Units) (s : Flight) (is_flight : IsFlight units s) (us : List ℕ) (number : ℕ) (lu : number ≤ length us) (ok : IsOrder s.values (take number us)) (w : List ℤ) (n : ℕ) (lw : n ≤ length w) (e : found (take n w) ≡ search s.rows (columns_of units (take number us))) (past : (i : ℕ) → n ≤ i → entry w i ≡ pos 0) where
-  pub finds : Finds (setting_of units) s (take number us) (found (take n w))
-  finds = subst (Finds (setting_of units) s (take number us)) (sym e) (search_is s.rows (columns_of units (take number us)))
+  abbrev first : List ℕ
+  first = take number us
 
-  count : length (take n w) ≡ n
-  count = omega (arith, length-take n w)
+  finds : Finds (setting_of units) s (take number us) (found (take n w))
+  finds = subst (Finds (setting_of units) s first) (sym e) (search_is s.rows (columns_of units first))
 
-  found_fewer : n ≤ number
-  found_fewer = omega (arith, count, circuit_within (setting_of units) s (take number us) (take n w) finds, length-take number us)
+  fewer : n ≤ number
+  fewer = omega (arith, lw, length-take n w, circuit_within (setting_of units) s first (take n w) finds, length-take number us)
 
-  found_small : (j : ℕ) → unsigned_abs (entry w j) ≤ 2 ^ 44
-  found_small = front_small w n past lw (subst (Within (2 ^ 44)) (sym finds.is) finds.closes.fits)
+  same : take n (take number us) ≡ take n us
+  same = take-take n number us fewer
 
-  pub found_units : take (length (take n w)) (take number us) ≡ take n us
-  found_units = ap (λ k. take k (take number us)) count ∙ take-take n number us found_fewer
-
-  found_some : IsZero (sized units (take n us) (take n w)) → ⊥
-  found_some z = some_sized units s (take number us) is_flight ok (take n w) finds (subst (λ ks. IsZero (sized units ks (take n w))) (sym found_units) z)
-
-  found_line : IsLine s.values (direction units (take number us) (take n w))
-  found_line = subst (IsLine s.values) (direction_sized units (take number us) (take n w)) (line_ok units s (take number us) is_flight ok (take n w) finds)
+  through : next_by (setting_of units) (end_of units.requested.den) (take number us) s ≡ next_through (setting_of units) (end_of units.requested.den) s.values (take n us) (take n w)
+  through = places_through (setting_of units) (end_of units.requested.den) s first us w n lw finds same
 
   pub found_circuit : IsCircuitOf units s us number w n
-  found_circuit = record { fewer = found_fewer; small = found_small; some = found_some; line = found_line }
-
-  pub found_next : next_along units.requested.den s.values (direction units (take number us) (take n w)) ≡ next_by units (take number us) s
-  found_next = ap (next_of units s.values (take number us)) e
-
-  -- where its direction doesn't fit
-  pub found_wide : entries_fit (direction units (take number us) (take n w)) ≡ false → wide ≡ next_by units (take number us) s
-  found_wide h = (let f : wide ≡ next_along units.requested.den s.values (direction units (take number us) (take n w)) = rw h refl in f) ∙ found_next
+  found_circuit = record {
+    fewer = fewer;
+    small = places_small (setting_of units) (end_of units.requested.den) s first us w n lw finds same past;
+    some = places_some (setting_of units) (end_of units.requested.den) s first us w n lw finds same (some_sizes units s first is_flight ok);
+    line = subst (λ (ks : List ℕ). IsLine s.values (direction_on (setting_of units).share ks (take n w)))
+        (places_prefix (setting_of units) (end_of units.requested.den) s first us w n lw finds same) (line_ok units s first is_flight ok (take n w) finds);
+    wide = λ d. sym (places_wide (setting_of units) (end_of units.requested.den) s first us w n lw finds same d);
+    along = λ d.
+        (let h : next_along units.requested.den s.values (direction_on (setting_of units).share (take n us) (take n w)) ≡ next_through (setting_of units) (end_of units.requested.den) s.values (take n us) (take n w) =
+        rw (d, le-leb s.values.den most_denominator is_flight.values.narrow) refl in h) ∙ sym through;
+  }
 
 -- what an answer of a search through some fractional units allows
 module _ (units : Units) (s : Tracked) (order : List ℕ) (a : AreSearched s order) where

@@ -1,6 +1,6 @@
 -- A unit whose value is 0 or 1 keeps it, whichever order the search goes in.
 use Rattle.std.proofs.Common.{◌≡◌, ◌≢◌, ℕ, ◌<◌, Bool, true, false, List, [], ◌∷◌, set, length, get_or, arith, refl, sym, ap, ◌∙◌, subst, inl, inr}
-use Rattle.std.proofs.{lemmas.Bool.{cases_Bool, true≢false}, lemmas.List.{get_or-set_other}}
+use Rattle.std.proofs.{lemmas.Bool.{false_from_ne_true, true≢false}, lemmas.List.{get_or-set_other}}
 use Rattle.smp_frac.specs.Fractions.{Fraction, Same, over}
 use Rattle.smp_frac.proofs.Arithmetic.{same_refl, same_trans, plus_same, plus-zero, times-zero}
 use Rattle.smp_prob.specs.Shares.{Shares}
@@ -60,10 +60,7 @@ module _ (units : Units) (order : List ℕ) (k : ℕ) (v : Fraction) where
 
       end_settled : IsSettledAt k v (chosen units f m plus_way).values
       end_settled = record {
-        still = elim (cases_Bool (is_fractional (chosen units f m plus_way).values k)) [
-          | inr e ↦ e
-          | inl e ↦ absurd (true≢false (sym ((ends_at units f left order ok ordered m is plus_way).fewer k e) ∙ settled.still))
-        ];
+        still = false_from_ne_true (is_fractional (chosen units f m plus_way).values k) (λ e. true≢false (sym ((ends_at units f left order ok ordered m is plus_way).fewer k e) ∙ settled.still));
         same = same_trans end_same settled.same;
       }
 

@@ -1,9 +1,8 @@
 //! Whether the numbers of units are so small that no step over them can be wide.
 
-ghost use Rattle.std.specs.Prelude.{◌≡◌, ◌↔◌, ℕ, ◌*◌, ◌<◌, ◌≤◌, IfNone, IfSome, length, max, slice_index, true};
+ghost use Rattle.std.specs.Prelude.{◌≡◌, ◌↔◌, ◌<◌, ◌≤◌, IfNone, IfSome, true};
 ghost use Rattle.smp_frac.specs.Limits.{most_denominator};
-ghost use Rattle.smp_kernel.specs.Minors.{minor_limit};
-ghost use Rattle.smp_flight.specs.{Kept.Narrow.{HasNegative, IsCommon, IsLeast, IsRowBound}, Narrow.{IsNarrow}, States.{IsUnits, row_count}};
+ghost use Rattle.smp_flight.specs.{Kept.Narrow.{IsLeast, IsLimit, IsRowMost}, Narrow.{IsNarrow}, States.{IsUnits, row_count}};
 
 use crate::shapes::Shape;
 use crate::steps::GATE;
@@ -23,28 +22,24 @@ pub fn is_narrow(shape: &Shape) -> bool
     ensures { result ≡ true ↔ IsNarrow shape.now }
 {
     let rows = shape.rows();
-    let mut bounds = [1; 16];
-    for row in 0..rows {
-        match row_bound(shape, row) {
-            Some(bound) => bounds[row] = bound,
-            None => return false,
-        }
-    }
-    let Some(limit) = limit_of(&bounds, rows) else {
+    let Some(first) = row_bound(shape, 0) else {
+        return false;
+    };
+    let Some(limit) = limit_of(shape, rows) else {
         return false;
     };
     let Some(multiple) = multiple_of(shape) else {
         return false;
     };
-    fits(bounds[0], limit, MOST_ENTRY) && fits(multiple, limit, GATE)
+    first as u128 * limit <= MOST_ENTRY && multiple * limit <= GATE
 }
 
 /// The greatest number of a row, or 1, and `None` where one is below 0.
-fn row_bound(shape: &Shape, row: usize) -> Option<u128>
+fn row_bound(shape: &Shape, row: usize) -> Option<u32>
     requires are { IsUnits shape.now }
     requires row { row < row_count shape.now }
-    ensures some { IfSome result (IsRowBound shape.now row) }
-    ensures none { IfNone result (HasNegative shape.now row) }
+    ensures some { IfSome result (IsRowMost shape.now row) }
+    ensures none { IfNone result (¬ (IsNarrow shape.now)) }
 {
     let mut most: u32 = 1;
     for unit in 0..shape.requested().len() {
@@ -54,21 +49,24 @@ fn row_bound(shape: &Shape, row: usize) -> Option<u128>
         }
         most = most.max(number.unsigned_abs());
     }
-    Some(most as u128)
+    Some(most)
 }
 
-/// No minor of so many rows passes this, where these bound the rows; `None` where it needs more than 128 bits, and so passes both gates.
-fn limit_of(bounds: &[u128; 16], rows: usize) -> Option<u128>
-    requires { rows ≤ 16 }
-    ensures some { IfSome result (λ limit.
-        limit ≡ minor_limit (λ row. max 1 (slice_index bounds.now row)) rows) }
-    ensures none { IfNone result
-        (most_denominator < minor_limit (λ row. max 1 (slice_index bounds.now row)) rows) }
+/// No minor passes this, by the greatest numbers of the rows; `None` where one is below 0, or this passes the gate of entries.
+fn limit_of(shape: &Shape, rows: usize) -> Option<u128>
+    requires are { IsUnits shape.now }
+    requires rows { rows ≡ row_count shape.now }
+    ensures some { IfSome result (IsLimit shape.now rows) }
+    ensures none { IfNone result (¬ (IsNarrow shape.now)) }
 {
     let mut limit: u128 = 1;
     for row in 0..rows {
         let places = if row < 2 { 1 } else { row as u128 + 1 };
-        limit = limit.checked_mul(bounds[row].max(1))?.checked_mul(places)?;
+        let most = row_bound(shape, row)?;
+        limit = limit * most as u128 * places;
+        if limit > MOST_ENTRY {
+            return None;
+        }
     }
     Some(limit)
 }
@@ -77,21 +75,12 @@ fn limit_of(bounds: &[u128; 16], rows: usize) -> Option<u128>
 fn multiple_of(shape: &Shape) -> Option<u128>
     requires { IsUnits shape.now }
     ensures some { IfSome result (IsLeast shape.now) }
-    ensures none { IfNone result ((m : ℕ) → IsCommon shape.now m → most_denominator < m) }
+    ensures small { IfSome result (λ multiple. multiple ≤ most_denominator) }
+    ensures none { IfNone result (¬ (IsNarrow shape.now)) }
 {
     let mut multiple = shape.requested().denominator();
     for unit in 0..shape.requested().len() {
         multiple = lcm_within(multiple, shape.size(unit) as u128, GATE)?;
     }
     Some(multiple)
-}
-
-/// Whether a product is at most so much.
-fn fits(a: u128, b: u128, most: u128) -> bool
-    ensures { result ≡ true ↔ a * b ≤ most }
-{
-    match a.checked_mul(b) {
-        Some(product) => product <= most,
-        None => false,
-    }
 }

@@ -4,17 +4,18 @@ ghost use Rattle.std.specs.Prelude.{◌≡◌, ◌↔◌, IfOk, length, true};
 ghost use Rattle.smp_prob.specs.Requests.{IsRequest};
 ghost use Rattle.smp_split.specs.Methods.{Starts};
 ghost use Rattle.smp_values.specs.Starts.{IsRequested};
-ghost use Rattle.smp_moves.specs.Cubes.{left_in};
-ghost use Rattle.smp_flight.specs.{Requests.{AreValues, units_of}, States.{Units}, Selections.{starting}, Landings.{IsBalanced}};
-ghost use Rattle.smp_flight.specs.{Narrow.{IsNarrow}, Cube.{cube_of}, CubeMethod.{method_of}};
+ghost use Rattle.smp_moves.specs.{Cubes.{left_in}, Kept.Phases.{balancing_of}};
+ghost use Rattle.smp_flight.specs.{Requests.{AreValues, units_of}, States.{Units}, Landings.{IsBalanced}, Narrow.{IsNarrow}};
+ghost use Rattle.smp_flight.specs.{Selections.{Balancing, starting}, Cube.{cube_of}, CubeMethod.{method_of}, Kept.CubeStates.{IsKept}};
 
-use crate::cube_state::CubeState;
-use crate::{Landing, Shape, is_narrow, look};
+use crate::{Landing, Next, Shape, fly, is_narrow, look, step};
 use smp_frac::{NoMemory, Numbers};
+use smp_moves::Phase;
 use smp_prob::Request;
 use smp_split::{Kind, Splitting};
 use std::alloc::Global;
-use std::marker::Model;
+use std::marker::{Brand, Model};
+use std::sync::ledger::Blank;
 
 /// A design that selects by the cube method.
 ///
@@ -31,6 +32,22 @@ impl Model for Cube {
     ghost view = { λ a. a.shape };
 
     ghost invariant = { λ a. a.units ≡ length a.shape.sizes };
+}
+
+/// A state of a selection by the cube.
+///
+/// The tables of a search take memory where there is some: no step fails for want of it.
+#[derive(Drop)]
+pub struct CubeState {
+    pub(crate) landing: Landing,
+}
+
+impl Model for CubeState {
+    ghost Value = { Balancing };
+
+    ghost view = { λ a. balancing_of a.landing.phase a.landing.flight.flight a.landing.steps a.landing.left };
+
+    ghost invariant = { λ a. IsKept a.landing.phase a.landing.flight a.landing.room };
 }
 
 impl Cube {
@@ -94,15 +111,44 @@ impl Splitting for Cube {
     }
 
     fn kind(&self, state: &CubeState) -> Kind {
-        state.kind(&self.shape)
+        match state.landing.phase {
+            Phase::Flying => match step(&self.shape, &state.landing.flight) {
+                Next::Move(_) => Kind::Flight,
+                Next::Independent => Kind::Drop,
+                Next::Wide => Kind::Wide,
+            },
+            Phase::Pairing => state.landing.steps.kind(),
+        }
     }
 
     fn bound(&self, state: &CubeState) -> u128 {
-        state.bound(&self.shape)
+        match state.landing.phase {
+            Phase::Flying => match step(&self.shape, &state.landing.flight) {
+                Next::Move(mv) => mv.plus_weight + mv.minus_weight,
+                Next::Independent => 1,
+                Next::Wide => 1,
+            },
+            Phase::Pairing => state.landing.steps.bound(),
+        }
     }
 
     fn advance(&self, state: &mut CubeState, draw: u128) {
-        state.advance(&self.shape, draw);
+        match state.landing.phase {
+            Phase::Flying => match step(&self.shape, &state.landing.flight) {
+                Next::Independent => {
+                    state.landing.drop_row(&self.shape);
+                    look(&self.shape, &mut state.landing.flight);
+                }
+                Next::Wide => state.landing.settle(&self.shape),
+                Next::Move(mv) => {
+                    let plus = draw < mv.plus_weight;
+                    let flight = &mut state.landing.flight;
+                    fly::<Brand>(&self.shape, flight, &mv, plus, Blank::new(1));
+                    look(&self.shape, &mut state.landing.flight);
+                }
+            },
+            Phase::Pairing => state.landing.steps.advance(draw),
+        }
     }
 
     fn selected(&self, state: &CubeState, unit: usize) -> bool {

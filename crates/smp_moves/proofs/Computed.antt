@@ -1,18 +1,21 @@
 -- The step that is computed has the properties of a step, in whatever the values are kept, where no share is 0, and a direction that fits can move
 -- the values to the ends that are computed.
-use Rattle.std.proofs.Common.{◌≡◌, ◌≢◌, ℕ, ◌<◌, ◌≤◌, ◌&&◌, nat_le, Bool, true, false, ℤ, pos, ◌<ℤ◌, List, take, length, map, arith, refl, sym, ◌∙◌, subst, inl, inr}
+use Rattle.std.proofs.Common.{◌≡◌, ◌≢◌, ℕ, ◌<◌, ◌≤◌, ◌^◌, nat_le, Bool, true, false, ℤ, pos, ◌<ℤ◌, Option, Some, None, List, take, length, map, arith, refl, sym, ap, ◌∙◌, subst, inl, inr, length-take}
+use Rattle.std.specs.{Prelude.{MatchOption}, Int.RustNames.{unsigned_abs}}
 use Rattle.std.proofs.{lemmas.Bool.{and_from, and_parts, cases_Bool, le-leb, leb-true, true≢false}, lemmas.Int.{ints}}
 use Rattle.std.proofs.lemmas.List.{length-map, length-take-le, get_or-take, take_all}
 use Rattle.smp_frac.specs.Limits.{most_denominator, most_entry}
-use Rattle.smp_kernel.specs.{Vectors.{entry, IsZero}, RowReduction.{AreIndependent, cut}, Searches.{Search, found, none, too_wide}}
+use Rattle.smp_kernel.specs.{Vectors.{entry, IsZero, Within}, RowReduction.{AreIndependent, cut}, Searches.{Search, found, none, too_wide}}
+use Rattle.smp_kernel.proofs.SearchLaw.{one_answer}
 use Rattle.smp_kernel.proofs.Reduce.{primitive_part_is, length-primitive_part}
 use Rattle.smp_kernel.proofs.{FoundCircuits.{circuit_length, circuit_last, cut_circuit_short}, SearchLaw.{none_is_few, together}}
 use Rattle.smp_prob.specs.Shares.{Shares}
-use Rattle.smp_moves.specs.{declared.lines.Ratio.{Ratio}, Cubes.{Flight}, Ends.{entries_fit, extent}, Kept.Searches.{search, search_is}}
+use Rattle.smp_moves.specs.{declared.lines.Line.{Line as LineOfPlaces}, declared.lines.Ratio.{Ratio}, Cubes.{Flight}, Ends.{entries_fit, extent}}
+use Rattle.smp_moves.specs.Kept.Searches.{search, search_is}
 use Rattle.smp_moves.specs.Moves.{Line, Move, Next, Setting, chosen_extent, chosen_line, move, independent, wide, turned}
 use Rattle.smp_moves.specs.Steps.{Finds, FitsAtEnds, FitsOnLine, IsDirection, IsFlown, IsMove, IsNext, IsWide, Stepping, scale_of, scaled, search_wide, direction_wide, move_wide}
-use Rattle.smp_moves.specs.Kept.Computed.{IsKnown, direction, fits, next_along, next_by, next_of}
-use Rattle.smp_moves.proofs.{Entries.{turned_line}, LineEnds.{greatest}, OneStep.{Goes, one_direction}}
+use Rattle.smp_moves.specs.Kept.Computed.{HoldsLine, IsKnown, IsLineOf, direction, direction_fits, direction_on, fits, fits_at_ends, fits_on_line, line_in, next_along, next_by, next_of, next_through}
+use Rattle.smp_moves.proofs.{Entries.{turned_line}, LineEnds.{greatest}, OneStep.{Goes, one_direction}, Sizes.{all_small}}
 use Rattle.smp_moves.proofs.OneStep as steps
 use Rattle.smp_moves.proofs.Products.{HasSome, HaveSome, length-scaled, scaled_some}
 use Rattle.smp_moves.proofs.Weights.{ends_weighed, lowest_weights, within_from, within_to}
@@ -24,7 +27,7 @@ module _ {Values Fixed : Type 0} (setting : Setting Values) (end_at : Values →
   known_from none finds m e = absurd (let h : independent ≡ move m = e in cc)
   known_from too_wide finds m e = absurd (let h : wide ≡ move m = e in cc)
   known_from (found w) finds m e =
-      elim (cases_Bool (fits setting end_at f.values order w)) [
+      elim (cases_Bool (fits setting end_at f.values (take (length w) order) w)) [
         | inl t ↦
             (let here : move (next_along setting f.values (direction setting.share order w)) ≡ move m = rw t at e in
             let same : next_along setting f.values (direction setting.share order w) ≡ m = cc in
@@ -39,7 +42,7 @@ module _ {Values Fixed : Type 0} (setting : Setting Values) (end_at : Values →
   none_from none e = refl
   none_from too_wide e = absurd (let h : wide ≡ independent = e in cc)
   none_from (found w) e =
-      elim (cases_Bool (fits setting end_at f.values order w)) [
+      elim (cases_Bool (fits setting end_at f.values (take (length w) order) w)) [
         | inl t ↦ absurd (let h : move (next_along setting f.values (direction setting.share order w)) ≡ independent = rw t at e in cc)
         | inr n ↦ absurd (let h : wide ≡ independent = rw n at e in cc)
       ]
@@ -47,6 +50,12 @@ module _ {Values Fixed : Type 0} (setting : Setting Values) (end_at : Values →
   -- where there is no move and no number is wide, it found none
   pub finds_none : next_by setting end_at order f ≡ independent → Finds setting f order none
   finds_none e = subst (Finds setting f order) (none_from (search f.rows (map setting.column order)) e) (search_is f.rows (map setting.column order))
+
+  -- the step by any answer of the search, of which there is one
+  pub next_answered : (a : Search) → Finds setting f order a → next_by setting end_at order f ≡ next_of setting end_at f.values order a
+  next_answered a finds =
+      let columns = map setting.column order in
+      ap (next_of setting end_at f.values order) (one_answer f.rows (cut f.rows columns) (search f.rows columns) a (search_is f.rows columns) finds)
 
 -- ---- the direction
 
@@ -79,6 +88,34 @@ module _ {Values Fixed : Type 0} (setting : Setting Values) (f : Flight Values F
       entries = primitive_part_is (scaled setting.share (scale_of setting.share (take (length w) order) w) (take (length w) order) w) some_scaled;
     }
 
+-- a row in proportion to share times factor, where the scale of these fits, has the line of the direction
+module _ (share : ℕ → Ratio) (prefix : List ℕ) (w row : List ℤ) (is : row ≡ scaled share (scale_of share prefix w) prefix w) (scale : scale_of share prefix w ≤ most_denominator) where
+  pub line_found : (result : Option LineOfPlaces) → MatchOption result (entries_fit (line_in prefix row) ≡ false) (HoldsLine (line_in prefix row)) →
+      MatchOption result (direction_fits share prefix w ≡ false) (IsLineOf share prefix w)
+  line_found None e = rw (le-leb (scale_of share prefix w) most_denominator scale) (subst (λ (r : List ℤ). entries_fit (line_in prefix r) ≡ false) is e)
+  line_found (Some line) h =
+      let there : HoldsLine (direction_on share prefix w) line = subst (λ (r : List ℤ). HoldsLine (line_in prefix r) line) is h in
+      record { fits = rw (le-leb (scale_of share prefix w) most_denominator scale) there.fits; holds = there }
+
+-- ---- a circuit in the first places of an array, and the units of another to which it belongs
+
+module _ {Values Fixed : Type 0} (setting : Setting Values) (end_at : Values → Line → Values) (f : Flight Values Fixed) (order us : List ℕ) (w : List ℤ) (n : ℕ) (long : n ≤ length w) (finds : Finds setting f order (found (take n w))) (same : take n order ≡ take n us) where
+  pub places_prefix : take (length (take n w)) order ≡ take n us
+  places_prefix = ap (λ k. take k order) (let e : length (take n w) ≡ n = omega (arith, long, length-take n w) in e) ∙ same
+
+  pub places_small : ((i : ℕ) → n ≤ i → entry w i ≡ pos 0) → (j : ℕ) → unsigned_abs (entry w j) ≤ 2 ^ 44
+  places_small past = all_small n w (subst (Within (2 ^ 44)) (sym finds.is) finds.closes.fits) past
+
+  pub places_some : HaveSome setting.share order → IsZero (scaled setting.share (scale_of setting.share (take n us) (take n w)) (take n us) (take n w)) → ⊥
+  places_some some z =
+      some_scaled setting f order (take n w) finds some (subst (λ (ks : List ℕ). IsZero (scaled setting.share (scale_of setting.share ks (take n w)) ks (take n w))) (sym places_prefix) z)
+
+  pub places_through : next_by setting end_at order f ≡ next_through setting end_at f.values (take n us) (take n w)
+  places_through = next_answered setting end_at f order (found (take n w)) finds ∙ ap (λ (ks : List ℕ). next_through setting end_at f.values ks (take n w)) places_prefix
+
+  pub places_wide : direction_fits setting.share (take n us) (take n w) ≡ false → next_by setting end_at order f ≡ wide
+  places_wide d = places_through ∙ (rw d refl)
+
 -- ---- the step
 
 -- What a state owes for its step: no share of its order is 0; the line of a direction that fits can move the values; and the values at both its
@@ -105,32 +142,31 @@ module _ {Values Fixed : Type 0} (setting : Setting Values) (end_at : Values →
     abbrev minus_end : Values
     minus_end = end_at f.values (turned line)
 
-    abbrev scale_fits : Bool
-    scale_fits = nat_le (scale_of setting.share (take (length w) order) w) most_denominator
-
-    abbrev den_fits : Bool
-    den_fits = nat_le s.den most_denominator
+    abbrev prefix : List ℕ
+    prefix = take (length w) order
 
     abbrev fits_along : Bool
-    fits_along = scale_fits && (entries_fit line && den_fits)
+    fits_along = fits_on_line setting f.values (take (length w) order) w
 
     abbrev fits_there : Bool
-    fits_there = nat_le (setting.common plus_end) most_denominator && nat_le (setting.common minus_end) most_denominator
+    fits_there = fits_at_ends setting end_at f.values line
 
     along_from : fits_along ≡ true → FitsOnLine setting f.values w line
     along_from h =
-        let a = and_parts scale_fits (entries_fit line && den_fits) h in
-        let b = and_parts (entries_fit line) den_fits a.1 in
+        let a = and_parts (direction_fits setting.share prefix w) (nat_le s.den most_denominator) h in
+        let b = and_parts (nat_le (scale_of setting.share prefix w) most_denominator) (entries_fit line) a.0 in
         record {
-          scale = leb-true (scale_of setting.share (take (length w) order) w) most_denominator a.0;
-          entries = within_from most_entry line.entries b.0;
-          denominator = leb-true s.den most_denominator b.1;
+          scale = leb-true (scale_of setting.share prefix w) most_denominator b.0;
+          entries = within_from most_entry line.entries b.1;
+          denominator = leb-true s.den most_denominator a.1;
         }
 
     along_to : FitsOnLine setting f.values w line → fits_along ≡ true
     along_to n =
-        and_from scale_fits (entries_fit line && den_fits) (le-leb (scale_of setting.share (take (length w) order) w) most_denominator n.scale)
-        (and_from (entries_fit line) den_fits (within_to most_entry line.entries n.entries) (le-leb s.den most_denominator n.denominator))
+        and_from (direction_fits setting.share prefix w) (nat_le s.den most_denominator)
+        (and_from (nat_le (scale_of setting.share prefix w) most_denominator) (entries_fit line)
+        (le-leb (scale_of setting.share prefix w) most_denominator n.scale) (within_to most_entry line.entries n.entries))
+        (le-leb s.den most_denominator n.denominator)
 
     there_from : fits_there ≡ true → FitsAtEnds setting plus_end minus_end
     there_from h =
@@ -141,15 +177,6 @@ module _ {Values Fixed : Type 0} (setting : Setting Values) (end_at : Values →
     there_to e =
         and_from (nat_le (setting.common plus_end) most_denominator) (nat_le (setting.common minus_end) most_denominator)
         (le-leb (setting.common plus_end) most_denominator e.plus) (le-leb (setting.common minus_end) most_denominator e.minus)
-
-    both_fit : (a b c d e : Bool) → (a && (b && (c && (d && e)))) ≡ ((a && (b && c)) && (d && e))
-    both_fit true true true d e = refl
-    both_fit true true false d e = refl
-    both_fit true false c d e = refl
-    both_fit false b c d e = refl
-
-    fits_is : fits setting end_at f.values order w ≡ (fits_along && fits_there)
-    fits_is = both_fit scale_fits (entries_fit line) den_fits (nat_le (setting.common plus_end) most_denominator) (nat_le (setting.common minus_end) most_denominator)
 
     is_move : FitsOnLine setting f.values w line → IsMove setting f.values order w (next_along setting f.values line) plus_end minus_end
     is_move narrow =
@@ -164,12 +191,12 @@ module _ {Values Fixed : Type 0} (setting : Setting Values) (end_at : Values →
           coprime = (lowest_weights g.first s g.over line g.ok).reduced;
         }
 
-    module _ (h : fits setting end_at f.values order w ≡ true) where
+    module _ (h : fits setting end_at f.values (take (length w) order) w ≡ true) where
       pub on_line : FitsOnLine setting f.values w line
-      on_line = along_from (and_parts fits_along fits_there (sym fits_is ∙ h)).0
+      on_line = along_from (and_parts fits_along fits_there h).0
 
       pub at_ends : FitsAtEnds setting plus_end minus_end
-      at_ends = there_from (and_parts fits_along fits_there (sym fits_is ∙ h)).1
+      at_ends = there_from (and_parts fits_along fits_there h).1
 
       pub found_move : IsMove setting f.values order w (next_along setting f.values line) plus_end minus_end
       found_move = is_move on_line
@@ -181,15 +208,15 @@ module _ {Values Fixed : Type 0} (setting : Setting Values) (end_at : Values →
       ends_moved true = found_move.plus_moved
       ends_moved false = found_move.minus_moved
 
-    unfit : fits setting end_at f.values order w ≡ false → IsWide setting f order
+    unfit : fits setting end_at f.values (take (length w) order) w ≡ false → IsWide setting f order
     unfit h =
         elim (cases_Bool fits_along) [
           | inr n ↦ direction_wide w line finds (is_direction setting f order w finds owes.some) (λ narrow. true≢false (sym (along_to narrow) ∙ n))
-          | inl t ↦ move_wide w (next_along setting f.values line) plus_end minus_end finds (is_move (along_from t)) (λ e. true≢false (sym (and_from fits_along fits_there t (there_to e)) ∙ sym fits_is ∙ h))
+          | inl t ↦ move_wide w (next_along setting f.values line) plus_end minus_end finds (is_move (along_from t)) (λ e. true≢false (sym (and_from fits_along fits_there t (there_to e)) ∙ h))
         ]
 
     next_found : IsNext setting f order (next_of setting end_at f.values order (found w))
-    next_found = elim (cases_Bool (fits setting end_at f.values order w)) [ inl t ↦ rw t (flown t) | inr n ↦ rw n (unfit n) ]
+    next_found = elim (cases_Bool (fits setting end_at f.values (take (length w) order) w)) [ inl t ↦ rw t (flown t) | inr n ↦ rw n (unfit n) ]
 
   next_from : (answer : Search) → Finds setting f order answer → IsNext setting f order (next_of setting end_at f.values order answer)
   next_from none finds = finds

@@ -1,6 +1,5 @@
 -- The first places of an array whose other places are 0.
 use Rattle.std.proofs.Common.{◌≡◌, ℕ, ◌<◌, ◌≤◌, ◌^◌, List, ℤ, pos, take, length, arith, sym, ◌∙◌, inl, inr, length-take, get_or-take}
-use Rattle.std.specs.Int.RustNames.{unsigned_abs}
 use Rattle.std.proofs.{lemmas.Bool.{cases_lt}, lemmas.List.{ext_get_or, get_or_past}}
 use Rattle.smp_kernel.specs.{Vectors.{entry, IsZero, Within}, Reduced.{IsReduced, IsTooLong, primitive_part}}
 use Rattle.smp_kernel.proofs.Ring.{positive_some, zero_of_product}
@@ -31,16 +30,6 @@ module _ (row : List ℤ) (n : ℕ) (past : (j : ℕ) → n ≤ j → entry row 
   pub front_long : (IsZero (take n row) → ⊥) → IsTooLong row → Within (2 ^ 44) (primitive_part (take n row)) → ⊥
   front_long some t w =
       t.long (reduced_within (2 ^ 44) (take n row) (primitive_part (take n row)) t.reduced (primitive_part_is (take n row) some) (same_rows row (take n row) t.reduced (λ i. sym (front_row i)) t.is) w)
-
-  -- no entry is larger than the first ones are
-  pub front_small : n ≤ length row → Within (2 ^ 44) (take n row) → (j : ℕ) → unsigned_abs (entry row j) ≤ 2 ^ 44
-  front_small lr within j =
-      elim (cases_lt j n) [
-        | inr m ↦ rw (past j m) (omega arith)
-        | inl l ↦
-            (let h : unsigned_abs (entry (take n row) j) ≤ 2 ^ 44 = within j (pos 0) (omega (arith, l, lr, length-take n row)) in
-            rw (get_or-take n row j (pos 0) l) at h)
-      ]
 
 -- a row that is 0 is so in its first places
 pub zero_front : (row : List ℤ) (n : ℕ) → IsZero row → IsZero (take n row)

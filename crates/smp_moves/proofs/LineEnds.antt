@@ -6,15 +6,15 @@ use Rattle.std.proofs.lemmas.Nat.Gcd.{dvd_refl, dvd_trans}
 use Rattle.std.proofs.Math.Nat.{mul-dvd-mul_left, mul-div_cancel', dvd-mul_left, dvd-mul_right_of_dvd, dvd_of_mul-dvd-mul_left, pos_of_dvd_of_pos, le_of_dvd}
 use Prim.Native.Nat.{◌∣◌}
 use Rattle.smp_frac.specs.{Fractions.{Same, over}, Divisors.{greatest_common_divisor}, Laws.Gcds.{IsGcd-greatest_common_divisor}}
-use Rattle.smp_frac.proofs.{Arithmetic.{cancel, same_trans}, Over.{over_same}}
+use Rattle.smp_frac.proofs.{Arithmetic.{cancel, same_trans}, Over.{over_same}, Signs.{over_at_most_one}}
 use Rattle.smp_frac.specs.{Laws.Coprime.{coprime_parts, divisor_positive, part_positive}, Laws.Lowest.{same_value}}
 use Rattle.smp_kernel.specs.Vectors.{entry}
 use Rattle.smp_kernel.proofs.Primitive.{dvd_of_primitive, one_from_le}
-use Rattle.smp_values.specs.Values.{is_fractional}
+use Rattle.smp_values.specs.Values.{fractional, is_fractional}
 use Rattle.smp_values.proofs.Fractional.{fractional_den}
 use Rattle.smp_moves.specs.{declared.lines.Ratio.{Ratio}, declared.reaches.Reach.{Reach}, Kept.Ends.{IsOver, MakesWhole}}
 use Rattle.smp_prob.specs.Shares.{Shares}
-use Rattle.smp_moves.specs.Moves.{Line, IsLine, entry_of, fraction_of, StaysWithin, IsGreatest, IsMoved}
+use Rattle.smp_moves.specs.Moves.{Line, IsLine, along, entry_of, fraction_of, StaysWithin, IsGreatest, IsMoved}
 use Rattle.smp_moves.specs.Ends.{room, reach, lowest, extent, advanced, advanced_numbers, common_factor, end_of}
 use Rattle.smp_moves.proofs.{Along.{StaysAt, stays_at, furthest, advanced_is}, Reaching.{IsReach, is_reach}}
 use Rattle.smp_moves.proofs.Places.{advanced_at, length_advanced}
@@ -267,3 +267,18 @@ module _ (first : ℕ) (s : Shares) (is_over : IsOver first s) (line : Line) (ok
     where
       same_part : (m x y : ℕ) → 1 ≤ m → m * x ≡ m * y → x ≡ y
       same_part m x y p e = cancel x y m p (omega (arith, e))
+
+  -- ---- the numerators before what they have in common is taken out
+
+  pub advanced_along : (k : ℕ) → Same (over (advanced (get_or s.numer k 0) (reach s line) (entry_of line k)) (s.den * (reach s line).size)) (along s line (fraction_of (extent s line)) k)
+  advanced_along k = advanced_is (a_at k) c (reach s line) (extent s line).num (extent s line).den (entry_of line k) some_den extent_is.some reached.some_size extent_is.same (within_room k)
+
+  pub advanced_within : (k : ℕ) → advanced (get_or s.numer k 0) (reach s line) (entry_of line k) ≤ s.den * (reach s line).size
+  advanced_within k = over_at_most_one (advanced (a_at k) (reach s line) (entry_of line k)) full (along s line (fraction_of (extent s line)) k) full_positive (advanced_along k) (stays.high k)
+
+  pub advanced_settled : fractional (s.den * (reach s line).size) (advanced (get_or s.numer first_unit 0) (reach s line) (entry_of line first_unit)) ≡ false
+  advanced_settled =
+      elim (advanced_out (a_at first_unit) c (reach s line) (entry_of line first_unit) (is_over.values.each first_unit) first_left first_size) [
+        | inl all ↦ rw all (fractional_den full)
+        | inr none ↦ rw none refl
+      ]

@@ -1,4 +1,4 @@
--- What the code keeps of a search and of a line.
+-- What the code keeps of the first fractional units and of a search.
 use Rattle.std.specs.Prelude.{◌≡◌, ℕ, ◌++◌, ◌<◌, ◌≤◌, List, ℤ, length, slice_index, take}
 use Rattle.std.specs.List.{filter}
 use Rattle.smp_kernel.specs.Searched.{answer, ArePadded}
@@ -7,12 +7,7 @@ use Rattle.smp_moves.specs.Kept.Searches.{search}
 use Rattle.smp_prob.specs.Shares.{Shares}
 use Rattle.smp_values.specs.Values.{fractional_units, is_fractional}
 use Rattle.smp_values.proofs.Units.{units_from}
-use Rattle.smp_flight.specs.States.{Units}
-use Rattle.smp_flight.specs.Kept.Steps.{direction}
-use Rattle.smp_moves.specs.Answers.{line_of, IsPadded}
-use Rattle.smp_moves.specs.declared.lines.Line.{Line as LineOfPlaces}
 use Rattle.smp_flight.specs.declared.fronts.Front.{Front}
-use Rattle.smp_moves.specs.Kept.Ends.{HasSmallEntries}
 
 -- the units in the first places of an array
 abbrev pub front_units : Front → List ℕ
@@ -41,9 +36,3 @@ pub record IsStanding (s : Shares) (front still : Front) : Type 0 where
 pub record IsSearched (q : ℕ) (columns : List (List ℤ)) (result : Searched) : Type 0 where
   pub is : answer result ≡ search q columns
   pub padded : ArePadded q result
-
--- the direction of the circuit w of the first of these units
-pub record IsLineOf (units : Units) (order : List ℕ) (w : List ℤ) (line : LineOfPlaces) : Type 0 where
-  pub is : line_of line ≡ direction units order w
-  pub padded : IsPadded line
-  pub small : HasSmallEntries line

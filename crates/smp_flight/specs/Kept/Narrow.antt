@@ -1,26 +1,32 @@
 -- What the code keeps on the way to whether units are narrow.
-use Rattle.std.specs.Prelude.{ℕ, ◌<◌, ◌≤◌, pos, length, ◌≤ℤ◌, ◌<ℤ◌}
+use Rattle.std.specs.Prelude.{ℕ, ◌<◌, ◌≤◌, pos, length, ◌≤ℤ◌, ◌≡◌, List, max, ◌^◌, map}
 use Rattle.std.specs.Int.RustNames.{unsigned_abs}
 use Prim.Native.Nat.{◌∣◌}
 use Rattle.smp_kernel.specs.Vectors.{entry}
 use Rattle.smp_flight.specs.States.{Units, column, size}
+use Rattle.std.specs.List.{fold}
+use Rattle.smp_frac.specs.Limits.{most_entry}
+use Rattle.smp_kernel.specs.Minors.{minor_limit}
 
--- no number of the first n units is below 0 in this row, and none passes the bound, which is the least such number from 1 on
-pub record IsBoundBelow (units : Units) (row n bound : ℕ) : Type 0 where
-  pub some : 1 ≤ bound
-  pub each : (k : ℕ) → k < n → unsigned_abs (entry (column units k) row) ≤ bound
-  pub signs : (k : ℕ) → k < n → pos 0 ≤ℤ entry (column units k) row
-  pub least : (other : ℕ) → 1 ≤ other → ((k : ℕ) → k < n → unsigned_abs (entry (column units k) row) ≤ other) → bound ≤ other
+-- the greatest number of a row by its absolute value, or 1
+abbrev pub row_numbers : Units → ℕ → List ℕ
+row_numbers units row = map (λ c. unsigned_abs (entry c row)) units.columns
 
--- the same of all units
-abbrev pub IsRowBound : Units → ℕ → ℕ → Type 0
-IsRowBound units row bound = IsBoundBelow units row (length units.sizes) bound
+abbrev pub row_most : Units → ℕ → ℕ
+row_most units row = fold max 1 (row_numbers units row)
 
--- a unit has a number below 0 in this row
-pub record HasNegative (units : Units) (row : ℕ) : Type 0 where
-  pub unit : ℕ
-  pub among : unit < length units.sizes
-  pub below : entry (column units unit) row <ℤ pos 0
+-- no number of a row is below 0, and this is the greatest
+pub record IsRowMost (units : Units) (row most : ℕ) : Type 0 where
+  pub is : most ≡ row_most units row
+  pub signs : (k : ℕ) → k < length units.sizes → pos 0 ≤ℤ entry (column units k) row
+  pub small : most < 2 ^ 32
+
+-- no number of the first rows is below 0, and no minor of theirs passes this, which is within the gate
+pub record IsLimit (units : Units) (rows limit : ℕ) : Type 0 where
+  pub is : limit ≡ minor_limit (row_most units) rows
+  pub signs :
+      (row : ℕ) → row < rows → (k : ℕ) → k < length units.sizes → pos 0 ≤ℤ entry (column units k) row
+  pub small : limit ≤ most_entry
 
 -- a common multiple of the requested denominator and of the first n sizes
 pub record IsCommonBelow (units : Units) (n multiple : ℕ) : Type 0 where
@@ -34,8 +40,5 @@ pub record IsLeastBelow (units : Units) (n multiple : ℕ) : Type 0 where
   pub divides : (other : ℕ) → IsCommonBelow units n other → multiple ∣ other
 
 -- the same of all sizes
-abbrev pub IsCommon : Units → ℕ → Type 0
-IsCommon units multiple = IsCommonBelow units (length units.sizes) multiple
-
 abbrev pub IsLeast : Units → ℕ → Type 0
 IsLeast units multiple = IsLeastBelow units (length units.sizes) multiple

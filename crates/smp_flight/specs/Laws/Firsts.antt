@@ -1,10 +1,9 @@
 -- The first fractional units: a window among them stays there.
-use Rattle.std.proofs.Common.{◌≡◌, ◌≢◌, ℕ, zero, suc, ◌+◌, ◌-◌, ◌<◌, ◌≤◌, Bool, true, nat_eq, List, [], ◌∷◌, ◌++◌, pos, take, drop, length}
-use Rattle.std.proofs.Common.{get_or, arith, sym, ap, ◌∙◌, subst, inl, inr}
-use Rattle.std.specs.List.{All, Contains, filter, range_with_len}
-use Rattle.std.proofs.lemmas.Bool.{both_ways, cases_Bool, cases_eq, eq-eqb, ne_eqb, or_left, or_right, true_from_ne_false, true≢false}
+use Rattle.std.proofs.Common.{◌≡◌, ◌≢◌, ℕ, ◌+◌, ◌-◌, ◌<◌, ◌≤◌, Bool, true, nat_eq, List, ◌++◌, pos}
+use Rattle.std.proofs.Common.{take, drop, length, get_or, arith, sym, ap, ◌∙◌, subst, ◌&&◌, not, refl, length-take}
+use Rattle.std.specs.List.{All, Contains, filter, range_with_len, AllPairs}
+use Rattle.std.proofs.lemmas.Bool.{both_ways, true_from_ne_false, and_from, and_parts}
 use Rattle.std.proofs.lemmas.List.{get_or_default, take-append-drop, take-append-le, take_all, length-map}
-use Rattle.std.proofs.lemmas.List.Folds.{list_any_kept}
 use Rattle.std.proofs.Math.Seq.{take-append-add}
 use Rattle.std.proofs.lemmas.List.FromFn.{get_or-range_with_len, length-range_with_len}
 use Rattle.smp_kernel.specs.RowReduction.{cut, AreIndependent}
@@ -17,9 +16,12 @@ use Rattle.smp_values.proofs.Units.{fractional_units_length, fractional_within}
 use Rattle.smp_flight.specs.States.{Units, column, columns_of}
 use Rattle.smp_flight.specs.Kept.Windows.{is_in}
 use Rattle.smp_moves.proofs.Filtered.{filter_twice}
-use Rattle.smp_moves.specs.Moves.{Line, entry_of}
-use Rattle.smp_moves.proofs.Entries.{entry_at_none}
-use Rattle.smp_flight.specs.Laws.Windowed.{in_append_left, in_at, in_or}
+use Rattle.smp_moves.specs.Moves.{Line, entry_of, IsOrder}
+use Rattle.smp_moves.proofs.Entries.{entry_at_none, order_going}
+use Rattle.smp_flight.specs.Laws.Windowed.{in_append_left, in_at, in_or, StandsAt, few_in, same_unit, unit_laws}
+use Rattle.std.proofs.lemmas.Map.Made.{is_member-filter, alike_from_same}
+use Rattle.std.proofs.lemmas.List.Filters.{length-filter_both}
+use Rattle.std.proofs.lemmas.List.Elements.{filter-append}
 
 -- ---- the units of a list
 
@@ -43,11 +45,6 @@ from_each order units h = all_in (Contains order) units (λ k t. in_contains ord
 pub in_take : (n : ℕ) (xs : List ℕ) (k : ℕ) → is_in (take n xs) k ≡ true → is_in xs k ≡ true
 in_take n xs k t = subst (λ (ys : List ℕ). is_in ys k ≡ true) (take-append-drop n xs) (in_append_left (take n xs) (drop n xs) k t)
 
-in_more : (n : ℕ) (xs : List ℕ) (k : ℕ) → is_in (take n xs) k ≡ true → is_in (take (suc n) xs) k ≡ true
-in_more n xs k t =
-    let e : n + 1 ≡ suc n = omega arith in
-    subst (λ (m : ℕ). is_in (take m xs) k ≡ true) e (list_any_kept (λ u. nat_eq u k) xs n t)
-
 pub in_front : (n : ℕ) (xs ys : List ℕ) (k : ℕ) → length xs ≤ n → is_in xs k ≡ true → is_in (take n (xs ++ ys)) k ≡ true
 in_front n xs ys k l h =
     let total : length xs + (n - length xs) ≡ n = omega (arith, l) in
@@ -64,22 +61,28 @@ changed_in line k some =
     true_from_ne_false (is_in line.units k)
     (λ out. some (entry_at_none line.units line.entries k (λ c. both_ways (is_in line.units k) out (contains_in line.units k c))))
 
+-- ---- the units of a list that pass a test
+
+pub filter_in : (p : ℕ → Bool) (us : List ℕ) (k : ℕ) → is_in (filter p us) k ≡ (is_in us k && p k)
+filter_in p us k = is_member-filter unit_laws p k (alike_from_same {eq = λ a b. nat_eq b a} same_unit p k) us
+
+pub in_filter : (p : ℕ → Bool) (us : List ℕ) (k : ℕ) → is_in us k ≡ true → p k ≡ true → is_in (filter p us) k ≡ true
+in_filter p us k h t = filter_in p us k ∙ and_from (is_in us k) (p k) h t
+
+pub out_filter : (p : ℕ → Bool) (us : List ℕ) (k : ℕ) → is_in (filter p us) k ≡ true → (is_in us k ≡ true) × (p k ≡ true)
+out_filter p us k h = and_parts (is_in us k) (p k) (sym (filter_in p us k) ∙ h)
+
+pub filter_few : (p : ℕ → Bool) (us : List ℕ) → length (filter p us) ≤ length us
+filter_few p us = (let part = length-filter_both p (λ k. not (p k)) (λ k. refl) us in omega (arith, part))
+
 -- one of the first elements that passes a test is one of the first that do
 pub first_passing : (p : ℕ → Bool) (n : ℕ) (xs : List ℕ) (k : ℕ) → is_in (take n xs) k ≡ true → p k ≡ true
     → is_in (take n (filter p xs)) k ≡ true
-first_passing p zero xs k t h = absurd (true≢false (sym t))
-first_passing p (suc n) [] k t h = t
-first_passing p (suc n) (x ∷ xs) k t h =
-    elim (cases_eq x k) [
-      | inl e ↦ (let px : p x ≡ true = subst (λ (y : ℕ). p y ≡ true) (sym e) h in
-          rw px (or_left (nat_eq x k) (is_in (take n (filter p xs)) k) (eq-eqb x k e)))
-      | inr ne ↦
-          (let rest = first_passing p n xs k (rw (ne_eqb x k ne) at t) h in
-          elim (cases_Bool (p x)) [
-            | inl px ↦ rw px (or_right (nat_eq x k) (is_in (take n (filter p xs)) k) rest)
-            | inr no_px ↦ rw no_px (in_more n (filter p xs) k rest)
-          ])
-    ]
+first_passing p n xs k t h =
+    let few = filter_few p (take n xs) in
+    subst (λ (zs : List ℕ). is_in (take n zs) k ≡ true)
+    (sym (filter-append p (take n xs) (drop n xs)) ∙ ap (filter p) (take-append-drop n xs))
+    (in_front n (filter p (take n xs)) (filter p (drop n xs)) k (omega (arith, few, length-take n xs)) (in_filter p (take n xs) k t h))
 
 -- ---- the first fractional units
 
@@ -99,13 +102,23 @@ in_range n k l =
     (get_or-range_with_len 0 n k 0 l ∙ (let e : 0 + k ≡ k = omega arith in e))
     (in_at (range_with_len 0 n) k (omega (arith, l, length-range_with_len 0 n)))
 
+-- different units below n are at most n
+pub few_units : (n : ℕ) (window : List ℕ) → ((k : ℕ) → is_in window k ≡ true → k < n)
+    → AllPairs (λ k l. k ≢ l) window → length window ≤ n
+few_units n window within distinct =
+    let few = few_in (range_with_len 0 n) window (λ k t. in_range n k (within k t)) distinct in
+    omega (arith, few, length-range_with_len 0 n)
+
 pub fractional_in : (s : Shares) (k : ℕ) → is_fractional s k ≡ true → is_in (fractional_units s) k ≡ true
 fractional_in s k f =
-    let n = length s.numer in
-    let all : is_in (take n (range_with_len 0 n)) k ≡ true =
-    rw (take_all n (range_with_len 0 n) (omega (arith, length-range_with_len 0 n)))
-    (in_range n k (fractional_within s k f)) in
-    in_take n (fractional_units s) k (first_passing (is_fractional s) n (range_with_len 0 n) k all f)
+    in_filter (is_fractional s) (range_with_len 0 (length s.numer)) k (in_range (length s.numer) k (fractional_within s k f)) f
+
+-- a unit of an order is fractional
+pub in_order_going : (s : Shares) (order : List ℕ) → IsOrder s order → (k : ℕ) → is_in order k ≡ true
+    → is_fractional s k ≡ true
+in_order_going s order ok k h =
+    let at : StandsAt order k = in_or order k h in
+    subst (λ (u : ℕ). is_fractional s u ≡ true) at.is (order_going s order ok at.place at.here)
 
 -- where there are no more of them
 pub all_first : (s : Shares) (n k : ℕ) → fractional_count s ≤ n → is_fractional s k ≡ true
@@ -114,9 +127,9 @@ all_first s n k few f = rw (take_all n (fractional_units s) (omega (arith, few, 
 
 -- ---- independent columns are no more than the rows in force
 
-pub independent_few : (units : Units) (s : Shares) (rows : ℕ)
-    → AreIndependent rows (cut rows (columns_of units (fractional_units s))) → fractional_count s ≤ rows
-independent_few units s rows ind =
-    let columns = columns_of units (fractional_units s) in
+pub independent_few : (units : Units) (rows : ℕ) (order : List ℕ) → AreIndependent rows (cut rows (columns_of units order))
+    → length order ≤ rows
+independent_few units rows order ind =
+    let columns = columns_of units order in
     let few = few_columns (elimination_of rows (cut rows columns) (cut_short rows columns) ind).is in
-    omega (arith, few, length-map columns (take rows), length-map (fractional_units s) (column units), fractional_units_length s)
+    omega (arith, few, length-map columns (take rows), length-map order (column units))

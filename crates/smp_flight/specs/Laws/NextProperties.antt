@@ -1,6 +1,5 @@
 -- The step has the properties of a search and of a move.
-use Rattle.std.proofs.Common.{◌≡◌, ℕ, ◌+◌, ◌≤◌, ◌&&◌, nat_le, if◌then◌else◌, List, ℤ, take, length, arith}
-use Rattle.std.proofs.Common.{refl, sym, ap, ◌∙◌, subst}
+use Rattle.std.proofs.Common.{◌≡◌, ℕ, ◌+◌, ◌≤◌, List, ℤ, take, length, arith, refl, sym, ap, ◌∙◌, subst}
 use Rattle.std.proofs.lemmas.List.{take-map, take-take}
 use Rattle.std.proofs.lemmas.Nat.Gcd.{dvd_refl}
 use Rattle.smp_kernel.specs.RowReduction.{cut, AreIndependent}
@@ -8,15 +7,14 @@ use Rattle.smp_kernel.specs.Searches.{Search, found, none, too_wide, IsSearch}
 use Rattle.smp_moves.specs.Kept.Searches.{search, search_is}
 use Rattle.smp_kernel.proofs.SearchLaw.{one_answer, first_decide, few_enter}
 use Rattle.smp_kernel.proofs.Existence.{cut_short}
-use Rattle.smp_frac.specs.Limits.{most_denominator}
 use Rattle.smp_kernel.proofs.FoundCircuits.{circuit_length}
 use Rattle.smp_flight.specs.States.{Units, Flight, IsUnits, IsFlight, column, columns_of, tracked_start}
-use Rattle.smp_moves.specs.Moves.{independent, Move, Next, IsOrder, move, turned, wide}
-use Rattle.smp_moves.specs.Steps.{Finds, IsNext, scale_of}
+use Rattle.smp_moves.specs.Moves.{independent, Move, IsOrder, move}
+use Rattle.smp_moves.specs.Steps.{Finds, IsNext}
 use Rattle.smp_flight.specs.Moves.{setting_of}
-use Rattle.smp_moves.specs.Ends.{end_of, entries_fit}
+use Rattle.smp_moves.specs.Ends.{end_of}
 use Rattle.smp_flight.specs.Steps.{next_on, next_on_is}
-use Rattle.smp_moves.specs.Kept.Computed.{direction_on, next_along, next_by, next_of}
+use Rattle.smp_moves.specs.Kept.Computed.{next_by, next_of, next_through}
 use Rattle.smp_moves.proofs.Computed.{independent_by, next_is as next_is_by}
 use Rattle.smp_flight.specs.Laws.Nexts.{IsKnown, known_by, owes}
 
@@ -56,25 +54,14 @@ module _ (units : Units) (s : Flight) (order : List ℕ) where
         f.enter,
   )
 
-  -- the step along a circuit by its first units
-  along : List ℤ → List ℕ → Next
-  along w ks =
-      let line = direction_on (setting_of units).share ks w in
-      if nat_le (scale_of (setting_of units).share ks w) most_denominator
-      && (entries_fit line
-      && (nat_le s.values.den most_denominator
-      && (nat_le (end_of units.requested.den s.values line).den most_denominator
-      && nat_le (end_of units.requested.den s.values (turned line)).den most_denominator)))
-      then move (next_along (setting_of units) s.values line) else wide
-
   same_next : (answer : Search) → Finds (setting_of units) s order answer →
       next_of (setting_of units) (end_of units.requested.den) s.values (take (s.rows + 1) order) answer
       ≡ next_of (setting_of units) (end_of units.requested.den) s.values order answer
-  unfolding along
   same_next none f = refl
   same_next too_wide f = refl
   same_next (found w) f = (let same : take (length w) (take (s.rows + 1) order) ≡ take (length w) order =
-      take-take (length w) (s.rows + 1) order (circuit_few w f) in ap (along w) same)
+      take-take (length w) (s.rows + 1) order (circuit_few w f) in
+      ap (λ (ks : List ℕ). next_through (setting_of units) (end_of units.requested.den) s.values ks w) same)
 
   pub next_by_front : next_by (setting_of units) (end_of units.requested.den) (take (s.rows + 1) order) s
       ≡ next_by (setting_of units) (end_of units.requested.den) order s

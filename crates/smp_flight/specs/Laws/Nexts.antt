@@ -1,28 +1,23 @@
 -- There is a step with the properties of a search and of a move.
-use Rattle.std.proofs.Common.{◌≡◌, ℕ, ◌≤◌, true, nat_le, List, ℤ, take, length, get_or, arith, refl, sym, ap, subst}
-use Rattle.std.proofs.lemmas.Bool.{and_from, le-leb}
+use Rattle.std.proofs.Common.{◌≡◌, ℕ, ◌≤◌, ◌<◌, List, ℤ, length, get_or, arith, refl, sym, subst}
 use Rattle.smp_frac.specs.Limits.{most_entry, most_denominator}
-use Rattle.smp_kernel.specs.Vectors.{IsZero, Within}
-use Rattle.smp_kernel.specs.Reduced.{primitive_part}
-use Rattle.smp_kernel.specs.Searches.{Search, found, none, too_wide}
+use Rattle.smp_kernel.specs.Vectors.{Within}
+use Rattle.smp_kernel.specs.Searches.{found}
 use Rattle.smp_kernel.proofs.Primitive.{not_primitive}
 use Rattle.smp_prob.specs.Shares.{Shares}
-use Rattle.smp_moves.specs.Ends.{end_of, entries_fit, move_along}
+use Rattle.smp_moves.specs.Ends.{end_of, move_along}
 use Rattle.smp_moves.specs.Moves.{Line, Move, IsOrder, IsLine, turned, move}
-use Rattle.smp_moves.specs.Steps.{Finds, FitsAtEnds, FitsOnLine, IsDirection, IsMove, Stepping, scale_of}
+use Rattle.smp_moves.specs.Steps.{Finds, FitsAtEnds, FitsOnLine, IsDirection, IsMove, Stepping}
 use Rattle.smp_moves.specs.Kept.Computed as computed
 use Rattle.smp_moves.specs.Kept.Ends.{IsOver}
-use Rattle.smp_moves.specs.Kept.Searches.{search}
 use Rattle.smp_moves.proofs.Computed as steps
 use Rattle.smp_moves.proofs.Computed.{Owes, at_ends, is_direction, stepping_by}
 use Rattle.smp_moves.proofs.Entries.{order_within, order_front, turned_line}
 use Rattle.smp_moves.proofs.LineEnds.{moved}
 use Rattle.smp_moves.proofs.Products.{HaveSome}
-use Rattle.smp_moves.proofs.Weights.{within_to}
-use Rattle.smp_flight.specs.States.{Units, Flight, IsFlight, columns_of}
+use Rattle.smp_flight.specs.States.{Units, Flight, IsFlight}
 use Rattle.smp_flight.specs.Moves.{setting_of}
-use Rattle.smp_flight.specs.Kept.Steps.{direction, fits, next_along, next_by, next_of, sized}
-use Rattle.smp_flight.specs.Laws.Entries.{scale_one, scaled_sized}
+use Rattle.smp_flight.specs.Laws.Entries.{scale_one}
 
 -- ---- the line of the circuit that is found
 
@@ -42,6 +37,10 @@ flight_over units s is_flight = record {
   values = record { count = refl; positive = is_flight.values.positive; narrow = is_flight.values.narrow; each = is_flight.values.each };
 }
 
+pub order_inside : (units : Units) (s : Flight) → IsFlight units s → (us : List ℕ) → IsOrder s.values us → (j : ℕ) → j < length us
+    → get_or us j 0 < length units.sizes
+order_inside units s is_flight us ok j l = omega (arith, order_within s.values us ok j l, is_flight.values.count)
+
 -- with sizes as shares, and a denominator that fits, the entries alone can pass their gate
 pub narrow_line : (units : Units) (s : Flight) → IsFlight units s → (w : List ℤ) (line : Line) → Within most_entry line.entries
     → FitsOnLine (setting_of units) s.values w line
@@ -52,17 +51,13 @@ narrow_line units s is_flight w line entries = record {
 }
 
 module _ (units : Units) (s : Flight) (order : List ℕ) (is_flight : IsFlight units s) (ok : IsOrder s.values order) where
-  some_sizes : HaveSome (setting_of units).share order
+  pub some_sizes : HaveSome (setting_of units).share order
   some_sizes j l = record {
-    num = is_flight.are.some_size (get_or order j 0) (omega (arith, order_within s.values order ok j l, is_flight.values.count));
+    num = is_flight.are.some_size (get_or order j 0) (order_inside units s is_flight order ok j l);
     den = omega arith;
   }
 
   module _ (w : List ℤ) (finds : Finds (setting_of units) s order (found w)) where
-    pub some_sized : IsZero (sized units (take (length w) order) w) → ⊥
-    some_sized z = steps.some_scaled (setting_of units) s order w finds some_sizes
-        (subst IsZero (sym (scaled_sized units (take (length w) order) w)) z)
-
     pub direction_is : IsDirection (setting_of units).share order w (computed.direction (setting_of units).share order w)
     direction_is = is_direction (setting_of units) s order w finds some_sizes
 
@@ -118,33 +113,3 @@ abbrev pub each_step : Stepping setting_of (λ units s order. IsFlight units s �
 each_step =
     stepping_by setting_of (λ units s order. IsFlight units s × IsOrder s.values order) (λ units. end_of units.requested.den)
     (λ units s order allowed. owes units s order allowed.0 allowed.1)
-
--- ---- by sizes: the gates of the products and of the state hold nothing up
-
-pub direction_sized : (units : Units) (order : List ℕ) (w : List ℤ)
-    → computed.direction (setting_of units).share order w ≡ direction units order w
-direction_sized units order w =
-    ap (λ (es : List ℤ). record { units = take (length w) order; entries = primitive_part es })
-    (scaled_sized units (take (length w) order) w)
-
-pub fit_is : (first : ℕ) (s : Shares) (line : Line) → Within most_entry line.entries → (end_of first s line).den ≤ most_denominator
-    → (end_of first s (turned line)).den ≤ most_denominator → fits first s line ≡ true
-fit_is first s line w a b =
-    and_from (entries_fit line) _ (within_to most_entry line.entries w)
-    (and_from (nat_le (end_of first s line).den most_denominator) (nat_le (end_of first s (turned line)).den most_denominator)
-    (le-leb (end_of first s line).den most_denominator a) (le-leb (end_of first s (turned line)).den most_denominator b))
-
-module _ (units : Units) (s : Flight) (narrow : s.values.den ≤ most_denominator) (order : List ℕ) where
-  scale_fits : (w : List ℤ) → nat_le (scale_of (setting_of units).share (take (length w) order) w) most_denominator ≡ true
-  scale_fits w = ap (λ (n : ℕ). nat_le n most_denominator) (scale_one units (take (length w) order) w)
-
-  of_sized : (answer : Search) → computed.next_of (setting_of units) (end_of units.requested.den) s.values order answer
-      ≡ next_of units s.values order answer
-  of_sized none = refl
-  of_sized too_wide = refl
-  of_sized (found w) =
-      rw (scale_fits w, le-leb s.values.den most_denominator narrow)
-      (ap (next_along units.requested.den s.values) (direction_sized units order w))
-
-  pub next_sized : computed.next_by (setting_of units) (end_of units.requested.den) order s ≡ next_by units order s
-  next_sized = of_sized (search s.rows (columns_of units order))

@@ -1,29 +1,24 @@
 -- Columns of units are independent in any order of the units where they are in one.
-use Rattle.std.proofs.Common.{◌≡◌, ◌≢◌, ℕ, ◌+◌, ◌<◌, ◌≤◌, true, min, List, [], ◌∷◌, ◌++◌, ℤ, pos}
-use Rattle.std.proofs.Common.{◌*ℤ◌, map, take, length, get_or, arith, sym, ap, ◌∙◌, subst, inl, inr}
+use Rattle.std.proofs.Common.{◌≡◌, ◌≢◌, ℕ, ◌<◌, true, List, ℤ, pos, ◌*ℤ◌, map, take, length, get_or, arith}
+use Rattle.std.proofs.Common.{sym, ap, ◌∙◌, subst, inl, inr}
 use Rattle.std.specs.List.{AllPairs, Contains}
-use Rattle.std.proofs.lemmas.Bool.{both_ways, cases_Bool, cases_eq, cases_lt}
+use Rattle.std.proofs.lemmas.Bool.{cases_lt}
 use Rattle.std.proofs.lemmas.Int.{ints}
-use Rattle.std.proofs.lemmas.List.{get_or-map, get_or_default, get_or_past, length-map, length_push}
-use Rattle.std.proofs.lemmas.List.Quantifiers.{all_pairs_push}
+use Rattle.std.proofs.lemmas.List.{get_or-map, get_or_default, get_or_past, length-map}
 use Rattle.smp_frac.specs.Fractions.{Same, whole, integer, times, sum_below}
 use Rattle.smp_frac.proofs.Arithmetic.{same_refl, same_sym, same_trans, sum_same}
 use Rattle.smp_kernel.specs.Vectors.{IsZero, entry, dot, combination}
 use Rattle.smp_kernel.specs.RowReduction.{cut, AreIndependent, InForce, IsRelationOn}
-use Rattle.smp_kernel.proofs.Existence.{cut_short, elimination_of}
 use Rattle.smp_kernel.proofs.FoundCircuits.{dot_row, in_row_cut}
-use Rattle.smp_kernel.proofs.Gate.{few_columns}
-use Rattle.smp_prob.specs.Shares.{Shares}
-use Rattle.smp_values.specs.Values.{fractional_count, fractional_units, is_fractional}
-use Rattle.smp_values.proofs.Units.{fractional_units_length}
 use Rattle.smp_flight.specs.States.{Units, column, columns_of}
-use Rattle.smp_moves.specs.Moves.{IsOrder, entry_at}
+use Rattle.smp_moves.specs.Moves.{entry_at, IsOrder}
 use Rattle.smp_flight.specs.Kept.Windows.{is_in}
-use Rattle.smp_moves.proofs.Entries.{entry_at_none, entry_at_place, frame_order, order_going, order_within, place_or}
-use Rattle.smp_flight.specs.Laws.Firsts.{contains_in, fractional_in}
+use Rattle.smp_moves.proofs.Entries.{entry_at_none, entry_at_place, place_or, order_within}
+use Rattle.smp_flight.specs.Laws.Firsts.{contains_in}
 use Rattle.smp_moves.proofs.LineSums.{line_dot, sum_line}
 use Rattle.smp_flight.specs.Laws.MoveTotals.{number_in, numbers_are}
-use Rattle.smp_flight.specs.Laws.Windowed.{few_in, in_append, in_at, in_or, not_in, not_in_one}
+use Rattle.smp_flight.specs.Laws.Windowed.{in_at, in_or}
+use Rattle.smp_prob.specs.Shares.{Shares}
 
 -- ---- the factors of units in another order
 
@@ -104,50 +99,13 @@ module _ (n : ℕ) (us vs : List ℕ) (us_inside : (j : ℕ) → j < length us �
           ∙ same_dot (number_in units row) ∙ sym (sum_at w us row l) ∙ rel.1 row l,
     )
 
-pub independent_as : (units : Units) (q n : ℕ) (us vs : List ℕ) → ((j : ℕ) → j < length us → get_or us j 0 < n)
-    → ((j : ℕ) → j < length vs → get_or vs j 0 < n) → AllPairs (λ k l. k ≢ l) us → AllPairs (λ k l. k ≢ l) vs →
-    ((k : ℕ) → is_in us k ≡ true → is_in vs k ≡ true) → AreIndependent q (cut q (columns_of units vs))
+pub independent_as : (units : Units) (q : ℕ) (s : Shares) (us vs : List ℕ) → IsOrder s us → IsOrder s vs
+    → ((k : ℕ) → is_in us k ≡ true → is_in vs k ≡ true) → AreIndependent q (cut q (columns_of units vs))
     → AreIndependent q (cut q (columns_of units us))
-independent_as units q n us vs a b c d has ind w rel =
+independent_as units q s us vs u v has ind w rel =
+    let n = length s.numer in
+    let a = order_within s us u in
+    let b = order_within s vs v in
     let long : length w ≡ length us = rel.0 ∙ length-map (columns_of units us) (take q) ∙ length-map us (column units) in
-    zero_factors n us vs a b c d has w long (ind (moved n us vs a b c d has w long) (moved_relation n us vs a b c d has w long units q rel))
-
--- ---- independent columns of units that a search goes through are those of all fractional units
-
--- different fractional units, as many as there are, are all of them
-pub all_in_order : (s : Shares) (order : List ℕ) → IsOrder s order → fractional_count s ≤ length order → (k : ℕ)
-    → is_fractional s k ≡ true → is_in order k ≡ true
-all_in_order s order ok many k f =
-    elim (cases_Bool (is_in order k)) [
-      | inl t ↦ t
-      | inr out ↦
-          (let few = few_in (fractional_units s) (order ++ k ∷ [])
-          (λ m t. elim (cases_Bool (is_in order m)) [
-            | inl h ↦ (let at = in_or order m h in
-                fractional_in s m (subst (λ (x : ℕ). is_fractional s x ≡ true) at.is
-                (order_going s order ok at.place at.here)))
-            | inr o ↦ elim (cases_eq m k) [
-              | inl e ↦ rw e (fractional_in s k f)
-              | inr ne ↦ absurd (both_ways (is_in (order ++ k ∷ []) m) (in_append order (k ∷ []) m (not_in_one k m ne) ∙ o) t)
-            ]
-          ])
-          (all_pairs_push (λ a b. a ≢ b) order k ok.distinct
-          (λ j d l e. not_in order k out j l (get_or_default order j 0 d l ∙ e))) in
-          absurd (omega (arith, few, many, length_push order k, fractional_units_length s)))
-    ]
-
-pub independent_in_frame : (units : Units) (s : Shares) (rows : ℕ) (order : List ℕ) → IsOrder s order
-    → length order ≡ min (rows + 1) (fractional_count s) → AreIndependent rows (cut rows (columns_of units order)) →
-    AreIndependent rows (cut rows (columns_of units (fractional_units s)))
-independent_in_frame units s rows order ok enough ind =
-    let columns = columns_of units order in
-    let few = few_columns (elimination_of rows (cut rows columns) (cut_short rows columns) ind).is in
-    let count : length order ≡ fractional_count s =
-    omega (arith, few, length-map columns (take rows), length-map order (column units), enough) in
-    let frame = frame_order s in
-    independent_as units rows (length s.numer) (fractional_units s) order
-    (order_within s (fractional_units s) frame) (order_within s order ok) frame.distinct ok.distinct
-    (λ k t. (let at = in_or (fractional_units s) k t in
-    all_in_order s order ok (omega (arith, count)) k
-    (subst (λ (x : ℕ). is_fractional s x ≡ true) at.is
-    (order_going s (fractional_units s) frame at.place at.here)))) ind
+    zero_factors n us vs a b u.distinct v.distinct has w long
+    (ind (moved n us vs a b u.distinct v.distinct has w long) (moved_relation n us vs a b u.distinct v.distinct has w long units q rel))

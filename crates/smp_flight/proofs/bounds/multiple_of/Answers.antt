@@ -3,6 +3,7 @@ use Rattle.std.proofs.{lemmas.Bool.{cases_eq}, lemmas.Nat.Gcd.{dvd_refl, dvd_tra
 use Prim.Native.Nat.{◌∣◌}
 use Rattle.smp_prob.specs.Shares.{Shares}
 use Rattle.smp_flight.specs.States.{size}
+use Rattle.smp_flight.proofs.RowBounds.{common_fits}
 use Rattle.smp_flight.proofs.bounds.multiple_of.Goals as goal
 
 pub loop-unit-init : goal.loop-unit-init
@@ -15,6 +16,7 @@ loop-unit-init c =
         common = record { some = omega (arith, some, same); of_denominator = subst P (sym same) (dvd_refl c.args.shape.now.requested.den); of_sizes = λ k l. absurd (omega (arith, l)) };
         divides = λ other common. (let Q : ℕ → Type 0 = λ x. x ∣ other in subst Q (sym same) common.of_denominator);
       };
+      small = omega (arith, same, c.requires.requested.narrow);
     }
 
 pub loop-unit-preserved : goal.loop-unit-preserved
@@ -40,6 +42,7 @@ loop-unit-preserved c =
           second = rw (to_z-of_z fits, c.size.ensures) (common.of_sizes c.loop-unit.unit (omega arith));
         });
       };
+      small = c.in_ok-multiple.ensures.within;
     }
 
 pub returns-in_err-multiple-clause-none : goal.returns-in_err-multiple-clause-none
@@ -48,9 +51,10 @@ returns-in_err-multiple-clause-none c =
     let here : c.loop-unit.unit < length c.args.shape.now.sizes = omega (arith, c.loop-unit-test.true, c.len-unit-end.ensures, same, c.requires.requested.count) in
     let fits : SFits w32 c.size.result = search rules in
     let s = c.loop-unit.invariant.so_far in
-    rw c.from_residual.ensures (λ m common.
-    c.in_err-multiple.ensures.passes m (record {
-      positive = common.some;
-      first = s.divides m (record { some = common.some; of_denominator = common.of_denominator; of_sizes = λ k l. common.of_sizes k (omega (arith, l, here)) });
-      second = rw (to_z-of_z fits, c.size.ensures) (common.of_sizes c.loop-unit.unit here);
-    }))
+    rw c.from_residual.ensures (λ n.
+    (let past = c.in_err-multiple.ensures.passes n.multiple (record {
+      positive = n.some;
+      first = s.divides n.multiple (record { some = n.some; of_denominator = n.of_denominator; of_sizes = λ k l. n.of_sizes k (omega (arith, l, here)) });
+      second = rw (to_z-of_z fits, c.size.ensures) (n.of_sizes c.loop-unit.unit here);
+    }) in
+    omega (arith, past, common_fits c.args.shape.now c.requires n)))
