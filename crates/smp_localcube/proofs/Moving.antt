@@ -1,9 +1,10 @@
 -- What the code may rest on before a move.
-use Rattle.std.proofs.Common.{◌≡◌, ℕ, Bool, true, false, not, nat_eq, ◌||◌, ℤ, pos, neg_ℤ, List, length, arith, refl, sym, ap, ◌∙◌, subst, inl, inr}
+use Rattle.std.proofs.Common.{◌≡◌, ℕ, Bool, true, false, not, nat_eq, ◌&&◌, ◌||◌, ℤ, pos, neg_ℤ, List, [], length, arith, refl, sym, ap, ◌∙◌, subst, inl, inr}
 use Rattle.std.specs.{Int.RustNames.{unsigned_abs}, List.{filter}}
-use Rattle.std.proofs.{Math.Bool.{and-false, and-true, or-false}, lemmas.List.{ext_get_or}, lemmas.List.FromFn.{length-map-range_with_len}}
-use Rattle.std.proofs.lemmas.Bool.{and_from, both_ways, cases_Bool, eqb-true, ne_eqb, not-false, or_left, or_right}
+use Rattle.std.proofs.{Math.Bool.{and-false, and-true}, lemmas.List.{ext_get_or}, lemmas.List.FromFn.{length-map-range_with_len}}
+use Rattle.std.proofs.lemmas.Bool.{both_ways, cases_Bool, eqb-true, ne_eqb, not-false, or_left, or_right}
 use Rattle.smp_near.specs.Nearest.{LivingPoints, is_living}
+use Rattle.smp_kernel.proofs.Ring.{abs_zero}
 use Rattle.smp_prob.specs.Shares.{Shares}
 use Rattle.smp_values.specs.Values.{fractional_units, is_fractional}
 use Rattle.smp_flight.specs.{States.{Flight, IsFlight, Tracked, Units}, Steps.{chosen, end_at_is, next_on}, Answers.{IsNextWindow}}
@@ -11,11 +12,11 @@ use Rattle.smp_moves.specs.Moves.{chosen_line, move, IsOrder, Line, Move, entry_
 use Rattle.smp_flight.specs.{Laws.Firsts.{contains_in, fractional_in, in_contains}, Laws.WholeOrders.{in_order_going}}
 use Rattle.smp_moves.proofs.{Entries.{frame_order}, Evens.{entry_of_turned}, Moved.{same_still, same_tests}}
 use Rattle.smp_flight.specs.{Laws.ByOrder.{ends_at}, Laws.Nexts.{flight_over}}
-use Rattle.smp_localcube.proofs.{Touch.{zero_size}, Around.{same_points}}
-use Rattle.smp_localcube.specs.{Kept.States.{AreTouched, IsReady, MayTouch, is_changed, touched_in, weights_of}, Kept.Orders.{is_untouched}}
+use Rattle.smp_localcube.proofs.Around.{same_points}
+use Rattle.smp_localcube.specs.{Kept.States.{AreTouched, IsReady, is_changed, touched_in, weights_of}, Kept.Orders.{is_untouched}}
 use Rattle.smp_localcube.specs.{Local.{is_one_of, untouched}, Laws.Orders.{filter_same, untouched_at}}
 use Rattle.smp_flight.specs.Landings.{HasRoom}
-use Rattle.smp_flight.proofs.Free.{out_filter, in_filter}
+use Rattle.smp_flight.proofs.Free.{filter_in, in_filter, out_filter}
 
 module _ (f : Tracked) (room : Shares) (points : LivingPoints) (weights : List ℕ) (ready : IsReady f room points weights) where
   living_is : (k : ℕ) → is_living points k ≡ is_untouched f.flight.values (touched_in f) k
@@ -23,22 +24,12 @@ module _ (f : Tracked) (room : Shares) (points : LivingPoints) (weights : List �
       ap (λ p. is_living p k) (same_points points f.flight.values (touched_in f) ready.living)
       ∙ untouched_at points.coords f.flight.values (touched_in f) k
 
-  pub may_touch : MayTouch f.flight.values f.window points
-  may_touch = record {
-    count = ap length ready.living ∙ length-map-range_with_len (is_untouched f.flight.values (touched_in f)) 0 (length f.flight.values.numer);
-    no_window = λ k h. living_is k ∙ elim (cases_Bool (is_fractional f.flight.values k)) [
-      | inr e ↦ rw e refl
-      | inl e ↦
-          (let there : is_one_of (touched_in f) k ≡ true = in_filter (is_one_of f.window) (fractional_units f.flight.values) k (fractional_in f.flight.values k e) h in
-          rw (e, there) refl)
-    ];
-    others = λ k e out. living_is k ∙ and_from (is_fractional f.flight.values k) (not (is_one_of (touched_in f) k)) e (elim (cases_Bool (is_one_of (touched_in f) k)) [
-      | inr none ↦ rw none refl
-      | inl there ↦ absurd (both_ways (is_one_of f.window k) out (out_filter (is_one_of f.window) (fractional_units f.flight.values) k there).1)
-    ]);
-  }
-
 -- ---- a move
+
+out_of_both : (was is touched changed : Bool) → (changed ≡ false → was ≡ is) → ((was && not touched) && not changed) ≡ (is && not (touched || changed))
+out_of_both was is true changed same = rw (and-false was) (sym (and-false is))
+out_of_both was is false true same = and-false (was && true) ∙ sym (and-false is)
+out_of_both was is false false same = and-true (was && true) ∙ ap (λ (b : Bool). b && true) (same refl)
 
 module _ (units : Units) (before after : Tracked) (left : ℕ) (order : List ℕ) (ok : IsFlight units before.flight) (ordered : IsOrder before.flight.values order) (m : Move) (is : next_on units order before.flight ≡ move m) (plus : Bool)
     (there : after.flight ≡ chosen units before.flight m plus) (next : IsNextWindow before m.direction after) where
@@ -67,7 +58,7 @@ module _ (units : Units) (before after : Tracked) (left : ℕ) (order : List ℕ
         | inl was ↦ or_left (is_one_of (touched_in before) k) (is_changed line k)
             (in_filter (is_one_of before.window) (fractional_units before.flight.values) k (fractional_in before.flight.values k (fewer k e)) (contains_in before.window k was))
         | inr some ↦ or_right (is_one_of (touched_in before) k) (is_changed line k)
-            (rw (ne_eqb (unsigned_abs (entry_of line k)) 0 (λ h. some (zero_size (entry_of line k) h))) refl)
+            (rw (ne_eqb (unsigned_abs (entry_of line k)) 0 (λ h. some (abs_zero (entry_of line k) h))) refl)
       ]
 
   touched_to : (k : ℕ) → is_fractional after.flight.values k ≡ true → (is_one_of (touched_in before) k || is_changed line k) ≡ true → is_one_of after.window k ≡ true
@@ -89,40 +80,22 @@ module _ (units : Units) (before after : Tracked) (left : ℕ) (order : List ℕ
 
   -- ---- the living points after it
 
-  module _ (room : Shares) (points now : LivingPoints) (weights : List ℕ) (ready : IsReady before room points weights) (t : AreTouched points line now) where
-    in_touched : (k : ℕ) → is_fractional after.flight.values k ≡ true → (is_one_of (touched_in before) k || is_changed line k) ≡ true → is_one_of (touched_in after) k ≡ true
-    in_touched k e h = in_filter (is_one_of after.window) (fractional_units after.flight.values) k (fractional_in after.flight.values k e) (touched_to k e h)
-
-    from_touched : (k : ℕ) → is_fractional after.flight.values k ≡ true → is_changed line k ≡ false → is_one_of (touched_in after) k ≡ true → is_one_of (touched_in before) k ≡ true
-    from_touched k e unchanged h =
-        sym (or-false (is_one_of (touched_in before) k)) ∙ subst (λ (c : Bool). (is_one_of (touched_in before) k || c) ≡ true) unchanged (touched_from k e (out_filter (is_one_of after.window) (fractional_units after.flight.values) k h).1)
-
-    changed_one : (k : ℕ) → is_changed line k ≡ true → is_untouched after.flight.values (touched_in after) k ≡ false
-    changed_one k changed =
+  module _ (room : Shares) (points now : LivingPoints) (weights : List ℕ) (ready : IsReady before room points weights) (t : AreTouched points line (record { units = []; entries = [] }) now) where
+    untouched_after : (k : ℕ) → is_untouched after.flight.values (touched_in after) k ≡ (is_fractional after.flight.values k && not (is_one_of (touched_in before) k || is_changed line k))
+    untouched_after k =
         elim (cases_Bool (is_fractional after.flight.values k)) [
           | inr e ↦ rw e refl
-          | inl e ↦ rw (e, in_touched k e (or_right (is_one_of (touched_in before) k) (is_changed line k) changed)) refl
-        ]
-
-    same_one : (k : ℕ) → is_changed line k ≡ false → is_untouched after.flight.values (touched_in after) k ≡ is_untouched before.flight.values (touched_in before) k
-    same_one k unchanged =
-        let zero : entry_of line k ≡ pos 0 = zero_size (entry_of line k) (eqb-true (unsigned_abs (entry_of line k)) 0 (not-false (nat_eq (unsigned_abs (entry_of line k)) 0) unchanged)) in
-        elim (cases_Bool (is_fractional after.flight.values k)) [
-          | inr e ↦ rw (e, sym (still k zero) ∙ e) refl
-          | inl e ↦
-              (let both : is_one_of (touched_in after) k ≡ is_one_of (touched_in before) k =
-              same_tests (is_one_of (touched_in after) k) (is_one_of (touched_in before) k) (from_touched k e unchanged)
-              (λ h. in_touched k e (or_left (is_one_of (touched_in before) k) (is_changed line k) h)) in
-              rw (e, sym (still k zero) ∙ e, both) refl)
+          | inl e ↦ ap (λ (b : Bool). is_fractional after.flight.values k && not b) (ap (λ (us : List ℕ). is_one_of us k) flown_touched
+              ∙ filter_in (λ j. is_one_of (touched_in before) j || is_changed line j) (fractional_units after.flight.values) k
+              ∙ ap (λ (b : Bool). b && (is_one_of (touched_in before) k || is_changed line k)) (fractional_in after.flight.values k e))
         ]
 
     living_after : (k : ℕ) → is_living now k ≡ is_untouched after.flight.values (touched_in after) k
     living_after k =
-        t.living k
-        ∙ elim (cases_Bool (is_changed line k)) [
-          | inl e ↦ rw e (and-false (is_living points k)) ∙ sym (changed_one k e)
-          | inr e ↦ rw e (and-true (is_living points k)) ∙ living_is before room points weights ready k ∙ sym (same_one k e)
-        ]
+        sym (and-true (is_living now k)) ∙ t.living k ∙ ap (λ (b : Bool). b && not (is_changed line k)) (living_is before room points weights ready k)
+        ∙ out_of_both (is_fractional before.flight.values k) (is_fractional after.flight.values k) (is_one_of (touched_in before) k) (is_changed line k)
+        (λ unchanged. sym (still k (abs_zero (entry_of line k) (eqb-true (unsigned_abs (entry_of line k)) 0 (not-false (nat_eq (unsigned_abs (entry_of line k)) 0) unchanged)))))
+        ∙ sym (untouched_after k)
 
     pub flown_ready : length after.flight.values.numer ≡ length before.flight.values.numer → (new : List ℕ) → new ≡ weights_of now.living → IsReady after room now new
     flown_ready same new weighed = record {

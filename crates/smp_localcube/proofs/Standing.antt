@@ -1,6 +1,7 @@
 -- A state in flight, and what each of its steps rests on.
-use Rattle.std.proofs.Common.{◌≡◌, ℕ, ◌+◌, ◌-◌, ◌<◌, ◌≤◌, nat_lt, false, List, [], ◌∷◌, Option, Some, None, length, get_or, arith, refl, sym, ap, ◌∙◌, subst}
-use Rattle.std.specs.{Prelude.{option_map}, List.{sum}}
+use Rattle.std.proofs.Common.{◌≡◌, ◌≢◌, ℕ, ◌+◌, ◌-◌, ◌<◌, ◌≤◌, nat_lt, false, List, [], Option, Some, None, length, get_or, arith, refl, sym, ap, ◌∙◌, subst}
+use Rattle.std.specs.{Prelude.{option_map}, List.{AllPairs, sum}}
+use Rattle.std.proofs.lemmas.List.FromFn.{length-map-range_with_len}
 use Rattle.smp_near.specs.Nearest.{LivingPoints}
 use Rattle.smp_places.specs.Amounts.{sum_before}
 use Rattle.smp_prob.specs.Shares.{Shares}
@@ -13,10 +14,10 @@ use Rattle.smp_flight.specs.{States.{IsFlight, Tracked, Units}, Steps.{chosen}, 
 use Rattle.smp_flight.specs.declared.steps.Move.{Move as MoveOfPlaces}
 use Rattle.smp_flight.specs.declared.steps.Next.{Next as Answer}
 use Rattle.smp_flight.specs.declared.steps.Next.TheVariants as answers
-use Rattle.smp_localcube.specs.{Laws.Splits.{local_lawful}, Local.{IsLocal, Local, head_of, local_tree, parts_from, parts_in_flight, untouched}}
-use Rattle.smp_localcube.specs.Kept.States.{AreTouched, IsFlownOn, IsReady, IsSearchable, IsSearched, MayTouch, next_around, touched_in, weights_of}
-use Rattle.smp_localcube.proofs.{Around.{carried_now}, Chosen.{found_is, found_open}, Moving.{flown_ready, flown_touched, may_touch}}
-use Rattle.smp_localcube.proofs.{Picked.{move_picked, move_within}, Touch.{untouched_total}}
+use Rattle.smp_localcube.specs.{Kept.Orders.{is_untouched}, Laws.Splits.{local_lawful, no_head}, Local.{IsLocal, Local, head_of, local_tree, parts_from, parts_in_flight, untouched}}
+use Rattle.smp_localcube.specs.Kept.States.{AreTouched, IsFlownOn, IsReady, IsSearchable, IsSearched, next_around, touched_in, weights_of}
+use Rattle.smp_localcube.proofs.{Around.{carried_now}, Chosen.{found_is, found_open}, Moving.{flown_ready, flown_touched}}
+use Rattle.smp_localcube.proofs.{Picked.{move_picked, move_within}, Touch.{line_within, untouched_total}}
 
 -- a state in flight
 abbrev pub in_flight : Tracked → ℕ → LivingPoints → Option ℕ → Local
@@ -32,10 +33,6 @@ pub record Standing (units : Units) (f : Tracked) (left : ℕ) (room : Shares) (
 none_head : (f : ℕ → Next) (o : Option ℕ) → None ≡ option_map f o → o ≡ None
 none_head f None e = refl
 none_head f (Some k) e = absurd (cc)
-
-none_touched : (touched : List ℕ) (held : Option ℕ) → head_of touched held ≡ None → touched ≡ []
-none_touched [] held e = refl
-none_touched (u ∷ touched) held e = absurd (cc)
 
 module _ {units : Units} {f : Tracked} {room : Shares} {points : LivingPoints} {weights : List ℕ} {held : Option ℕ} {s : Local} where
   pub standing : {now found : Option Answer} → IsFlownOn f room points weights held found → (left : ℕ) →
@@ -57,7 +54,7 @@ module _ {units : Units} {f : Tracked} {room : Shares} {points : LivingPoints} {
       none = none_head (next_around units points.coords f.flight (touched_in f)) (head_of (touched_in f) held) is.searched.is
 
       bare : weights ≡ weights_of (untouched points.coords f.flight.values []).living
-      bare = is.ready.weighed ∙ ap weights_of (is.ready.living ∙ ap (λ (t : List ℕ). (untouched points.coords f.flight.values t).living) (none_touched (touched_in f) held none))
+      bare = is.ready.weighed ∙ ap weights_of (is.ready.living ∙ ap (λ (t : List ℕ). (untouched points.coords f.flight.values t).living) (no_head (touched_in f) held none).0)
 
       total : sum weights ≡ fractional_count f.flight.values
       total = ap (λ (ws : List ℕ). sum ws) bare ∙ untouched_total points.coords f.flight.values
@@ -110,14 +107,23 @@ module _ {units : Units} {f : Tracked} {room : Shares} {points : LivingPoints} {
       pub move_bound : GoesBothWays (move_of m)
       move_bound = both_ways units f.flight left allows.order is.here.state allows.is_order (move_of m) allows.is
 
-      pub touchable : IsLine f.flight.values (line_of m.direction) × (IsPadded m.direction × (MayTouch f.flight.values f.window points × (weights ≡ weights_of points.living)))
+      line_ok : IsLine f.flight.values (line_of m.direction)
+      line_ok = (known units f.flight allows.order is.here.state allows.is_order (move_of m) allows.is).line
+
+      pub touchable : IsPadded m.direction × (AllPairs (λ k l. k ≢ l) (line_of m.direction).units × (((place : ℕ) → place < m.direction.number → get_or m.direction.units place 0 < length points.living) × (weights ≡ weights_of points.living)))
       touchable = (
-        (known units f.flight allows.order is.here.state allows.is_order (move_of m) allows.is).line,
-        (allows.kept.padded, (may_touch f room points weights is.ready, is.ready.weighed)),
+        allows.kept.padded,
+        (
+          line_ok.order.distinct,
+          (
+            λ place here. omega (arith, line_within f.flight.values m.direction line_ok allows.kept.padded place here, ap length is.ready.living, length-map-range_with_len (is_untouched f.flight.values (touched_in f)) 0 (length f.flight.values.numer)),
+            is.ready.weighed,
+          ),
+        ),
       )
 
       module _ {t : Tracked} (draw : ℕ) (flown : t.flight ≡ chosen units f.flight (move_of m) (nat_lt draw m.plus_weight)) (next : IsNextWindow f (move_of m).direction t) where
-        pub moved_ready : {now : LivingPoints} {new : List ℕ} → length t.flight.values.numer ≡ length f.flight.values.numer → AreTouched points (line_of m.direction) now → new ≡ weights_of now.living → IsReady t room now new
+        pub moved_ready : {now : LivingPoints} {new : List ℕ} → length t.flight.values.numer ≡ length f.flight.values.numer → AreTouched points (line_of m.direction) (record { units = []; entries = [] }) now → new ≡ weights_of now.living → IsReady t room now new
         moved_ready {now} {new} same touched weighed =
             flown_ready units f t left allows.order is.here.state allows.is_order (move_of m) allows.is (nat_lt draw m.plus_weight) flown next room points now weights is.ready touched same new weighed
 

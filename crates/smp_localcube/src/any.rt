@@ -1,7 +1,6 @@
 //! The local cube in any number of dimensions, from one to four.
 
 ghost use Rattle.std.specs.Prelude.{◌≡◌, IfOk};
-ghost use Rattle.smp_near.specs.Dimensions.{in_any};
 ghost use Rattle.smp_split.specs.Methods.{Starts};
 ghost use Rattle.smp_moves.specs.Cubes.{left_in};
 ghost use Rattle.smp_flight.specs.Landings.{IsBalanced};
@@ -21,7 +20,8 @@ use std::marker::Model;
 /// Its draw tree is that of [`LocalCube`], which doesn't depend on the number of coordinates.
 #[derive(Drop)]
 pub struct AnyLocalCube {
-    design: ByDimensions<LocalCube<1>, LocalCube<2>, LocalCube<3>, LocalCube<4>>,
+    /// The design over points with that number of coordinates.
+    pub design: ByDimensions<LocalCube<1>, LocalCube<2>, LocalCube<3>, LocalCube<4>>,
 }
 
 impl Model for AnyLocalCube {
@@ -66,15 +66,6 @@ macro_rules! in_each {
 }
 
 impl AnyLocalCube {
-    /// The design over points with one to four coordinates.
-    pub fn of(
-        design: ByDimensions<LocalCube<1>, LocalCube<2>, LocalCube<3>, LocalCube<4>>,
-    ) -> AnyLocalCube
-        ensures { result ≡ in_any design }
-    {
-        AnyLocalCube { design }
-    }
-
     /// The state before the first step. Over all draws, each unit is selected with the probability that is its value, and where the
     /// values add up to a whole number, that many units are. The flight keeps each balancing total, and the units that are fractional
     /// where the landing begins bound the error of each estimate.
@@ -90,14 +81,14 @@ impl AnyLocalCube {
     pub fn left(&self, state: &AnyLocalCubeState) -> u32
         ensures { result ≡ left_in state.now.at }
     {
-        in_each!(&state.state, inner => inner.left())
+        in_each!(&state.state, inner => inner.landing.left)
     }
 
     // The units, their sizes, columns and probabilities.
     fn shape(&self) -> &Shape
         ensures { result.now ≡ self.now.units }
     {
-        in_each!(&self.design, design => design.shape())
+        in_each!(&self.design, design => &design.shape)
     }
 }
 
@@ -111,7 +102,7 @@ impl Splitting for AnyLocalCube {
     }
 
     fn done(&self, state: &AnyLocalCubeState) -> bool {
-        in_each!(&state.state, inner => inner.is_done())
+        in_each!(&state.state, inner => inner.landing.is_done())
     }
 
     fn kind(&self, state: &AnyLocalCubeState) -> Kind {
@@ -127,6 +118,6 @@ impl Splitting for AnyLocalCube {
     }
 
     fn selected(&self, state: &AnyLocalCubeState, unit: usize) -> bool {
-        in_each!(&state.state, inner => inner.is_one(unit))
+        in_each!(&state.state, inner => inner.landing.is_one(unit))
     }
 }

@@ -1,7 +1,6 @@
 //! The local cube as a design.
 
 ghost use Rattle.std.specs.Prelude.{◌≡◌, ◌↔◌, ◌≤◌, IfOk, length, true};
-ghost use Rattle.smp_near.specs.Nearest.{all_living};
 ghost use Rattle.smp_prob.specs.Requests.{IsRequest};
 ghost use Rattle.smp_split.specs.Methods.{Starts};
 ghost use Rattle.smp_values.specs.Starts.{IsRequested};
@@ -25,7 +24,7 @@ use std::marker::Model;
 /// It is seen as its units, their sizes, their columns and the probabilities that are requested of them, and as their points.
 #[derive(Drop)]
 pub struct LocalCube<const K: usize> {
-    shape: Shape,
+    pub(crate) shape: Shape,
     coords: Vec<[i32; K]>,
     units: usize,
 }
@@ -36,14 +35,6 @@ impl<const K: usize> Model for LocalCube<K> {
     ghost view = { λ a. record { units = a.shape; coords = a.coords.items } };
 
     ghost invariant = { λ a. IsPlaced K a.shape a.coords.items a.units };
-}
-
-// The points with these coordinates, all of them living.
-fn points_at<const K: usize>(alloc: Global, coords: &[[i32; K]]) -> Result<Points<K>, NoMemory>
-    requires { (1 ≤ K) × (K ≤ 4) }
-    ensures { IfOk result (λ points. points ≡ all_living coords.now) }
-{
-    Points::new(alloc, coords)
 }
 
 impl<const K: usize> LocalCube<K> {
@@ -83,7 +74,7 @@ impl<const K: usize> LocalCube<K> {
         let rows = self.shape.rows();
         Ok(LocalCubeState {
             landing: Landing::start(alloc, &self.shape)?,
-            points: points_at(alloc, self.coords.as_slice())?,
+            points: Points::new(alloc, self.coords.as_slice())?,
             weights: Amounts::ones(alloc, self.units)?,
             chosen: None,
             looked: Looked {
@@ -106,14 +97,7 @@ impl<const K: usize> LocalCube<K> {
     pub fn left(&self, state: &LocalCubeState<K>) -> u32
         ensures { result ≡ left_in state.now.at }
     {
-        state.left()
-    }
-
-    // The units, their sizes, columns and probabilities.
-    pub(crate) fn shape(&self) -> &Shape
-        ensures { result.now ≡ self.now.units }
-    {
-        &self.shape
+        state.landing.left
     }
 }
 
@@ -127,7 +111,7 @@ impl<const K: usize> Splitting for LocalCube<K> {
     }
 
     fn done(&self, state: &LocalCubeState<K>) -> bool {
-        state.is_done()
+        state.landing.is_done()
     }
 
     fn kind(&self, state: &LocalCubeState<K>) -> Kind {
@@ -143,6 +127,6 @@ impl<const K: usize> Splitting for LocalCube<K> {
     }
 
     fn selected(&self, state: &LocalCubeState<K>, unit: usize) -> bool {
-        state.is_one(unit)
+        state.landing.is_one(unit)
     }
 }

@@ -1,15 +1,13 @@
 //! The states of a selection by the local cube.
 
-ghost use Rattle.std.specs.Prelude.{◌≡◌, ◌+◌, ◌<◌, ◌≤◌, false, length};
+ghost use Rattle.std.specs.{Prelude.{◌≡◌, ◌≢◌, ℕ, ◌<◌, false, [], length, slice_index}, List.{AllPairs}};
 ghost use Rattle.smp_split.specs.Trees.{picked, weight_sum};
-ghost use Rattle.smp_values.specs.Values.{is_one, is_settled};
-ghost use Rattle.smp_moves.specs.{Answers.{IsPadded, line_of}, Cubes.{left_in, values_in}, Moves.{IsLine, IsOrder}};
-ghost use Rattle.smp_flight.specs.{Answers.{Allows, IsMoveOf, answer_of}, States.{IsFlight}};
-ghost use Rattle.smp_localcube.specs.{Local.{IsLocal, Local, kind_from, parts_from, untouched}, Laws.Orders.{HasHead}};
-ghost use Rattle.smp_localcube.specs.Kept.States.{AreTouched, IsKept, IsSearchable, IsSearched, MayTouch, order_units};
-ghost use Rattle.smp_localcube.specs.Kept.States.{next_around, state_of, touched_in, weights_of};
+ghost use Rattle.smp_values.specs.Values.{is_settled};
+ghost use Rattle.smp_moves.specs.{Answers.{IsPadded, line_of}, Cubes.{values_in}};
+ghost use Rattle.smp_localcube.specs.Kept.States.{AreTouched, IsKept, IsSearchable, IsSearched, state_of, weights_of};
+ghost use Rattle.smp_localcube.specs.Local.{IsLocal, Local, kind_from, parts_from};
 
-use crate::orders::{Order, is_among, rising};
+use crate::orders::rising;
 use smp_flight::{FlightState, Landing, Line, Next, Shape, fly, step_on};
 use smp_kernel::Tables;
 use smp_moves::Phase;
@@ -41,34 +39,6 @@ impl<const K: usize> Model for LocalCubeState<K> {
     ghost invariant = { λ a. IsKept a.landing.phase a.landing.flight a.landing.room a.points a.weights a.chosen a.looked.found.value };
 }
 
-/// The step of a flight with these touched units and this head: its search goes through one unit more than there are rows in force, or
-/// all.
-fn step_from<const K: usize>(
-    shape: &Shape,
-    flight: &FlightState,
-    points: &Points<K>,
-    touched: &Order,
-    head: usize,
-    tables: &mut Tables,
-) -> Next
-    requires flight { IsFlight shape.now flight.now.flight }
-    requires touched { order_units touched.now ≡ touched_in flight.now }
-    requires few { touched.now.number ≤ flight.now.flight.rows + 1 }
-    requires order { IsOrder flight.now.flight.values flight.now.window }
-    requires head { HasHead flight.now.flight.values (touched_in flight.now) head }
-    requires placed { length points.now.coords ≡ length flight.now.flight.values.numer }
-    requires living { points.now.living
-        ≡ (untouched points.now.coords flight.now.flight.values (touched_in flight.now)).living }
-    ensures is { answer_of result
-        ≡ next_around shape.now points.now.coords flight.now.flight (touched_in flight.now) head }
-    ensures allows { Allows (IsMoveOf shape.now flight.now) shape.now flight.now result }
-{
-    let most = flight.rows() + 1;
-    let first = touched.front(head);
-    let order = first.with_more(points, head, most - first.number);
-    step_on(shape, flight, &order.units, order.number, tables)
-}
-
 /// The next step of a flight, as it was looked for last.
 #[derive(Drop)]
 pub(crate) struct Looked {
@@ -79,7 +49,8 @@ pub(crate) struct Looked {
 }
 
 impl Looked {
-    /// Looks for the next step of a flight.
+    /// Looks for the next step of a flight. Where there is a head, the search goes through one unit more than there are rows in force, or
+    /// all.
     fn look<const K: usize>(
         &mut self,
         shape: &Shape,
@@ -95,30 +66,33 @@ impl Looked {
         match touched.head(chosen) {
             None => *self.found = None,
             Some(head) => {
+                let most = flight.rows() + 1;
+                let first = touched.front(head);
+                let order = first.with_more(points, head, most - first.number);
                 let tables = &mut self.tables;
-                *self.found = Some(step_from(shape, flight, points, &touched, head, tables));
+                *self.found = Some(step_on(shape, flight, &order.units, order.number, tables));
             }
         }
     }
 }
 
 /// Takes the units that a line changes out of those that no move has changed.
-fn touch<const K: usize>(
-    points: &mut Points<K>,
-    weights: &mut Amounts,
-    flight: &FlightState,
-    line: &Line,
-)
-    requires line { IsLine flight.now.flight.values (line_of line.now) }
+fn touch<const K: usize>(points: &mut Points<K>, weights: &mut Amounts, line: &Line)
     requires padded { IsPadded line.now }
-    requires may { MayTouch flight.now.flight.values flight.now.window points.old }
+    requires distinct { AllPairs (λ k m. k ≢ m) (line_of line.now).units }
+    requires within { (place : ℕ) → place < line.now.number
+        → slice_index line.now.units place < length points.old.living }
     requires weighed { weights.old ≡ weights_of points.old.living }
-    ensures touched { AreTouched points.old (line_of line.now) points.new }
+    ensures touched { AreTouched
+        points.old
+        (line_of line.now)
+        (record { units = []; entries = [] })
+        points.new }
     ensures weighed { weights.new ≡ weights_of points.new.living }
 {
     for place in 0..line.number {
         let unit = line.units[place];
-        if line.entries[place] != 0 && !is_among(flight.window(), unit) {
+        if line.entries[place] != 0 && weights.as_slice()[unit] != 0 {
             points.remove(unit);
             weights.take_out(unit);
         }
@@ -126,28 +100,6 @@ fn touch<const K: usize>(
 }
 
 impl<const K: usize> LocalCubeState<K> {
-    /// Whether no unit is fractional.
-    pub(crate) fn is_done(&self) -> bool
-        ensures { result ≡ is_settled (values_in self.now.at) }
-    {
-        self.landing.is_done()
-    }
-
-    /// Whether the value of a unit is 1.
-    pub(crate) fn is_one(&self, unit: usize) -> bool
-        requires { unit < length (values_in self.now.at).numer }
-        ensures { result ≡ is_one (values_in self.now.at) unit }
-    {
-        self.landing.is_one(unit)
-    }
-
-    /// How many units were fractional where the landing began, or 0.
-    pub(crate) fn left(&self) -> u32
-        ensures { result ≡ left_in self.now.at }
-    {
-        self.landing.left
-    }
-
     /// The kind of the next step.
     pub(crate) fn kind(&self, shape: &Shape) -> Kind
         requires { IsLocal shape.now self.now }
@@ -204,8 +156,7 @@ impl<const K: usize> LocalCubeState<K> {
                 Some(Next::Wide) => self.landing.settle(shape),
                 Some(Next::Move(mv)) => {
                     let plus = draw < mv.plus_weight;
-                    let flight = &self.landing.flight;
-                    touch(&mut self.points, &mut self.weights, flight, &mv.direction);
+                    touch(&mut self.points, &mut self.weights, &mv.direction);
                     fly::<Brand>(shape, &mut self.landing.flight, &mv, plus, Blank::new(1));
                     self.chosen = None;
                     self.looked

@@ -19,7 +19,7 @@ use Rattle.smp_localpiv.specs.Coordinates.{points_of}
 use Rattle.smp_localpiv.proofs.Starts.{local_around, local_starts, starts_open, starts_requested as local_requested}
 use Rattle.smp_stratcube.specs.{Layers.{IsLayer, Layer, no_layer}, Kept.Layers.{layer_of}}
 use Rattle.smp_stratcube.specs.Units as strata
-use Rattle.smp_stratcube.proofs.{BySteps.{counts_so, is_balanced}, Layered.{units_are as layers_units}, Stored.{layer_is}}
+use Rattle.smp_stratcube.proofs.{Balances.{strat_balanced}, WholeStrata.{has_counts}, Layered.{units_are as layers_units}, Stored.{layer_is}}
 use Rattle.smp_stratcube.proofs.Starting.{are_requested, strat_means}
 use Rattle.smp_pivotal.specs.{Pivotal.{pivotal_rule}, Laws.PivotalSplits.{pivotal_law}, Systematic.{systematic_rule}}
 use Rattle.smp_pivotal.specs.Laws.SystematicSplits.{systematic_law}
@@ -141,7 +141,7 @@ module _ (order : Order) (balance near : ℕ) (request : Request) (values points
       let are = layers_units layers all each in
       is_started (way method.StratifiedCube) request values points (so method.StratifiedCube) (first_state (so method.StratifiedCube)) whole refl
       (one_requested request values is (are_requested layers all each)) refl
-      (strat_means (strata.units_of layers) are).member (λ apart. absurd (true≢false apart)) (counts_so (strata.units_of layers) are, is_balanced (strata.units_of layers) are)
+      (strat_means (strata.units_of layers) are).member (λ apart. absurd (true≢false apart)) (has_counts (strata.units_of layers) are, strat_balanced (strata.units_of layers) are)
       (λ _ balances. absurd (true≢false balances))
     where
       one_layer : length values ≡ length request.free → AreValues values → (h : ℕ) → h < 1 → IsLayer (get_or (layer_of request values ∷ []) h no_layer)

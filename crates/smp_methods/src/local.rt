@@ -31,13 +31,20 @@ pub(crate) fn local_cube(
     ensures requested { IfOk result (λ design.
         IsRequested (method_of design).tree request.now (started design)) }
 {
-    let design = match near {
-        1 => ByDimensions::One(located::<1>(alloc, request, xs, points)?),
-        2 => ByDimensions::Two(located::<2>(alloc, request, xs, points)?),
-        3 => ByDimensions::Three(located::<3>(alloc, request, xs, points)?),
-        _ => ByDimensions::Four(located::<4>(alloc, request, xs, points)?),
-    };
-    Ok(AnyLocalCube::of(design))
+    match near {
+        1 => Ok(AnyLocalCube {
+            design: ByDimensions::One(located(alloc, request, xs, points)?),
+        }),
+        2 => Ok(AnyLocalCube {
+            design: ByDimensions::Two(located(alloc, request, xs, points)?),
+        }),
+        3 => Ok(AnyLocalCube {
+            design: ByDimensions::Three(located(alloc, request, xs, points)?),
+        }),
+        _ => Ok(AnyLocalCube {
+            design: ByDimensions::Four(located(alloc, request, xs, points)?),
+        }),
+    }
 }
 
 // The design over points with `K` coordinates.

@@ -1,14 +1,13 @@
 -- What the code keeps of a design and of a state.
-use Rattle.std.specs.Prelude.{◌≡◌, ℕ, ◌≤◌, Bool, true, false, not, nat_eq, ◌&&◌, if◌then◌else◌, List, ℤ, length}
+use Rattle.std.specs.Prelude.{◌≡◌, ℕ, ◌≤◌, Bool, not, nat_eq, ◌&&◌, if◌then◌else◌, List, ℤ, length, drop}
 use Rattle.std.specs.Prelude.{map, take, Option, IfSome, option_map}
 use Rattle.std.specs.Int.RustNames.{unsigned_abs}
 use Rattle.std.specs.List.{filter}
 use Rattle.smp_near.specs.Nearest.{LivingPoints, is_living}
 use Rattle.smp_prob.specs.Shares.{Shares}
-use Rattle.smp_values.specs.Values.{AllFractional, fractional_units, is_fractional}
+use Rattle.smp_values.specs.Values.{AllFractional, fractional_units}
 use Rattle.smp_moves.specs.Kept.Phases.{balancing_of}
 use Rattle.smp_moves.specs.Moves.{Line, entry_of, Next}
-use Rattle.smp_moves.specs.declared.lines.Line.{Line as LineOfPlaces}
 use Rattle.smp_flight.specs.States.{Flight, IsFlight, Tracked, Units}
 use Rattle.smp_flight.specs.Landings.{HasRoom}
 use Rattle.smp_flight.specs.Answers.{Allows, IsMoveOf, answer_of}
@@ -42,22 +41,15 @@ next_around units coords f touched head = next_on units (order_around coords f.v
 abbrev pub is_changed : Line → ℕ → Bool
 is_changed line k = not (nat_eq (unsigned_abs (entry_of line k)) 0)
 
--- The points that are living before a move, and which of them the units of a line may be: no unit of the window is living, and each
--- other fractional unit is.
-pub record MayTouch (s : Shares) (window : List ℕ) (points : LivingPoints) : Type 0 where
-  pub count : length points.living ≡ length s.numer
-  pub no_window : (k : ℕ) → is_one_of window k ≡ true → is_living points k ≡ false
-  pub others : (k : ℕ) → is_fractional s k ≡ true → is_one_of window k ≡ false → is_living points k ≡ true
+-- the rest of a line, from a place on
+abbrev pub line_from : Line → ℕ → Line
+line_from line place = record { units = drop place line.units; entries = drop place line.entries }
 
--- the units that a line changes are living no more
-pub record AreTouched (before : LivingPoints) (line : Line) (after : LivingPoints) : Type 0 where
-  pub coords : after.coords ≡ before.coords
-  pub count : length after.living ≡ length before.living
-  pub living : (k : ℕ) → is_living after k ≡ (is_living before k && not (is_changed line k))
-
--- the line in the first places of two arrays, up to a place
-abbrev pub line_to : LineOfPlaces → ℕ → Line
-line_to line place = record { units = take place line.units; entries = take place line.entries }
+-- the units that a line changes are living no more, but for those that the rest of it changes
+pub record AreTouched (before : LivingPoints) (line rest : Line) (now : LivingPoints) : Type 0 where
+  pub coords : now.coords ≡ before.coords
+  pub count : length now.living ≡ length before.living
+  pub living : (k : ℕ) → (is_living now k && not (is_changed rest k)) ≡ (is_living before k && not (is_changed line k))
 
 -- a state by its phase, its flight, its pivotal steps, and how many units were left
 abbrev pub state_of : Phase → Tracked → Shares → ℕ → LivingPoints → Option ℕ → Local

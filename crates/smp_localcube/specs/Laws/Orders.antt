@@ -3,7 +3,7 @@ use Rattle.std.proofs.Common.{◌≡◌, ◌≢◌, ℕ, Bool, true, false, not,
 use Rattle.std.proofs.Common.{◌++◌, ◌⊎◌, map, length, arith, refl, sym, ap, ◌∙◌, subst, inl, inr, suc, suc-le-suc}
 use Rattle.std.specs.{Prelude.{Option, Some, None, unwrap_or}, List.{AllPairs, filter, range_with_len}}
 use Rattle.std.proofs.lemmas.Bool.{and_from, and_parts, both_ways, cases_Bool, cases_eq, cases_lt, eq-eqb, eqb-false, ne_eqb, not-true}
-use Rattle.std.proofs.lemmas.Bool.{or_left, or_right, true≢false}
+use Rattle.std.proofs.lemmas.Bool.{false_from_ne_true, or_left, or_right, true≢false}
 use Rattle.std.proofs.lemmas.List.{get_or_past, length-map}
 use Rattle.std.proofs.lemmas.List.Elements.{All-append, All-filter}
 use Rattle.std.proofs.lemmas.List.FromFn.{get_or-map-range_with_len, length-range_with_len}
@@ -107,8 +107,7 @@ module _ (coords : List (List ℤ)) (s : Shares) (touched : List ℕ) where
         | inl here ↦ get_or-map-range_with_len (is_untouched s touched) 0 n k k false here (omega arith)
         | inr past ↦
             (let settled : is_fractional s k ≡ false =
-            elim (cases_Bool (is_fractional s k))
-            [ inr e ↦ e | inl e ↦ absurd (let here = fractional_within s k e in omega (arith, past, here)) ] in
+            false_from_ne_true (is_fractional s k) (λ e. (let here = fractional_within s k e in omega (arith, past, here))) in
             get_or_past (map (is_untouched s touched) (range_with_len 0 n)) k false
             (omega (
               arith,

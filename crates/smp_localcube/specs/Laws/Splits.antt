@@ -37,8 +37,8 @@ use Rattle.smp_localcube.specs.Laws.Orders.{filter_again, has_head, whole}
 
 -- ---- the head
 
-no_head : (touched : List ℕ) (chosen : Option ℕ) → head_of touched chosen ≡ None → chosen ≡ None
-no_head [] chosen e = e
+pub no_head : (touched : List ℕ) (chosen : Option ℕ) → head_of touched chosen ≡ None → (touched ≡ []) × (chosen ≡ None)
+no_head [] chosen e = (refl, e)
 no_head (u ∷ touched) chosen e = absurd (cc)
 
 -- the search of a state goes through all fractional units
@@ -139,12 +139,13 @@ module _ (units : Units) (coords : List (List ℤ)) (touched : List ℕ) (chosen
           }
 
       flight_through : (head : Option ℕ) → head_of touched chosen ≡ head → IsSplit (flying f left) (parts_at head)
-      flight_through None is = choice_through (no_head touched chosen is)
+      flight_through None is = choice_through (no_head touched chosen is).1
       flight_through (Some head) is =
           step_through (order_around coords f.values touched head) (order_whole here f head ok.carried is)
           (next_around units coords f touched head) refl
 
-    flight_goes : IsCarried f.values touched chosen → (head : Option ℕ) → head_of touched chosen ≡ head → GoesOn (local_of units) here
+    flight_goes : IsCarried f.values touched chosen → (head : Option ℕ) → head_of touched chosen ≡ head
+        → GoesOn (local_of units) here
     flight_goes carried None is =
         chooses (ap kind_at is)
         (subst (λ (h : Option ℕ). EachPart (λ p. p.state.at ≡ flying f left) (parts_at h)) (sym is)
@@ -154,7 +155,8 @@ module _ (units : Units) (coords : List (List ℤ)) (touched : List ℕ) (chosen
         let next = next_around units coords f touched head in
         flies (subst (λ (h : Option ℕ). IsWholeOrder f.values (order_at h)) (sym is) (order_whole here f head carried is))
         (subst (λ (h : Option ℕ). kind_at h ≡ flight_kind (next_on units (order_at h) f)) (sym is) refl)
-        (subst (λ (h : Option ℕ). moved (λ t. t.at) (parts_at h) ≡ flight_parts (shares_cube units) f left (next_on units (order_at h) f))
+        (subst (λ (h : Option ℕ). moved (λ t. t.at) (parts_at h)
+        ≡ flight_parts (shares_cube units) f left (next_on units (order_at h) f))
         (sym is) (there_again here next (flight_parts (shares_cube units) f left next)))
 
   -- ---- in pivotal steps
@@ -174,7 +176,8 @@ module _ (units : Units) (coords : List (List ℤ)) (touched : List ℕ) (chosen
 
   -- ---- all states
 
-  split_from : (b : Balancing) → IsLocal units (state b) → is_settled (values_in b) ≡ false → IsSplit b (parts_from units (state b) b)
+  split_from : (b : Balancing) → IsLocal units (state b) → is_settled (values_in b) ≡ false
+      → IsSplit b (parts_from units (state b) b)
   split_from (flying f left) ok going = flight_through f left ok going (head_of touched chosen) refl
   split_from (pairing t left) ok going = pairing_through t left ok going
 

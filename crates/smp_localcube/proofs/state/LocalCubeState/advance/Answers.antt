@@ -9,9 +9,6 @@ find-unit-requires g c = omega (arith, c.requires.within, choice_sum (standing (
 pub look-requires : goal.look-requires
 look-requires g c = (lit< tt, choice_searchable (standing (rw c.in-Flying.is at c.self.invariant) c.self.inside.landing.left (rw c.in-Flying.is at c.self.view_is) c.requires.state (sym c.in-None.is ∙ c.deref.ensures)) c.args.draw c.find-unit.result c.find-unit.ensures.place c.find-unit.ensures.from c.find-unit.ensures.passes)
 
-pub invariant_of-self : goal.invariant_of-self
-invariant_of-self g c = rw c.in-Flying.is (record { ready = (rw c.in-Flying.is at c.self.invariant).ready; searched = c.look.ensures })
-
 pub drop_row-requires-clause-some : goal.drop_row-requires-clause-some
 drop_row-requires-clause-some g c = row_left (standing (rw c.in-Flying.is at c.self.invariant) c.self.inside.landing.left (rw c.in-Flying.is at c.self.view_is) c.requires.state (sym (c.in-Some-Independent.is ∙ ap (λ a. Some a) (rw c.in-Some-Independent.is at c.in-Some-Independent.field-0-is)) ∙ c.deref.ensures)) c.requires.going
 
@@ -21,9 +18,6 @@ look-requires-in-Some-Independent g c = (lit< tt, rw c.drop_row.ensures.is (drop
 pub invariant_of-self-in-Some-Independent : goal.invariant_of-self-in-Some-Independent
 invariant_of-self-in-Some-Independent g c =
     rw (c.drop_row.ensures.is, c.in-Flying.is) (record { ready = dropped_ready (standing (rw c.in-Flying.is at c.self.invariant) c.self.inside.landing.left (rw c.in-Flying.is at c.self.view_is) c.requires.state (sym (c.in-Some-Independent.is ∙ ap (λ a. Some a) (rw c.in-Some-Independent.is at c.in-Some-Independent.field-0-is)) ∙ c.deref.ensures)); searched = rw c.drop_row.ensures.is at c.look-in-Some-Independent.ensures })
-
-pub invariant_of-self-in-Some-Wide : goal.invariant_of-self-in-Some-Wide
-invariant_of-self-in-Some-Wide g c = rw c.settle.ensures tt
 
 pub touch-requires : goal.touch-requires
 touch-requires g c = (lit< tt, touchable (standing (rw c.in-Flying.is at c.self.invariant) c.self.inside.landing.left (rw c.in-Flying.is at c.self.view_is) c.requires.state (sym (c.in-Some-Move.is ∙ ap (λ a. Some a) (rw c.in-Some-Move.is at c.in-Some-Move.field-0-is)) ∙ c.deref.ensures)))
