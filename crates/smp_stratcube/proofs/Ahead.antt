@@ -36,19 +36,20 @@ order_rises values = AllPairs-filter (λ k l. k < l) (is_fractional values) (ran
 -- ---- a front
 
 -- the fractional units, in the array and after it
+front_at : (values : List Value) (front : Front) → front.number ≤ length front.units → front_units front ++ units_on front.place (length values) ≡ fractional_units values → (j : ℕ) → j < front.number →
+    (get_or front.units j 0 ≡ get_or (fractional_units values) j 0) × (j < length (fractional_units values))
+front_at values front long all j l = (
+  sym (get_or-take front.number front.units j 0 l) ∙ sym (get_or_append_left (front_units front) (units_on front.place (length values)) 0 j (omega (arith, l, long, length-take front.number front.units)))
+      ∙ ap (λ us. get_or us j 0) all,
+  subst (λ us. j < length us) all (omega (arith, l, long, length-take front.number front.units, length-append (front_units front) (units_on front.place (length values)))),
+)
+
 module _ (values : List Value) (front : Front) (is : IsFront values front) (long : front.number ≤ length front.units) where
   pub in_front : (j : ℕ) → j < front.number → (get_or front.units j 0 ≡ get_or (fractional_units values) j 0) × (j < length (fractional_units values))
-  in_front j l = (
-    sym (get_or-take front.number front.units j 0 l) ∙ sym (get_or_append_left (front_units front) (units_on front.place (length values)) 0 j (omega (arith, l, long, length-take front.number front.units)))
-        ∙ ap (λ us. get_or us j 0) is.all,
-    subst (λ us. j < length us) is.all (omega (arith, l, long, length-take front.number front.units, length-append (front_units front) (units_on front.place (length values)))),
-  )
+  in_front j l = front_at values front long is.all j l
 
   pub front_going : (j : ℕ) → j < front.number → is_fractional values (get_or front.units j 0) ≡ true
   front_going j l = (let e = in_front j l in subst (λ (k : ℕ). is_fractional values k ≡ true) (sym e.0) (order_going values j e.1))
-
-  pub front_inside : (j : ℕ) → j < front.number → get_or front.units j 0 < length values
-  front_inside j l = fractional_in values (get_or front.units j 0) (front_going j l)
 
   -- a unit of the front stands before the place
   pub front_before : (j : ℕ) → j < front.number → get_or front.units j 0 < front.place
@@ -58,7 +59,7 @@ module _ (values : List Value) (front : Front) (is : IsFront values front) (long
         | inr past ↦ absurd (let n : ℕ = length (front_units front) in
             let count_front : n ≡ front.number = omega (arith, long, length-take front.number front.units) in
             let i = in_front j b in
-            let inside = fractional_in values (get_or front.units j 0) (front_going j b) in
+            let inside = is.inside j b in
             let here : length (units_on front.place (length values)) ≡ length values - front.place = length-range_with_len front.place (length values - front.place) in
             let total : length (fractional_units values) ≡ n + length (units_on front.place (length values)) = sym (ap length is.all) ∙ length-append (front_units front) (units_on front.place (length values)) in
             let at : get_or (fractional_units values) (n + 0) 0 ≡ get_or (units_on front.place (length values)) 0 0 = ap (λ us. get_or us (n + 0) 0) (sym is.all) ∙ get_or-append-add (front_units front) (units_on front.place (length values)) 0 0 in
@@ -81,7 +82,7 @@ stays_ahead old new front is long count fewer same =
     record {
       short = is.short;
       within = omega (arith, is.within, count);
-      inside = λ j l. (let h = front_inside old front is long j l in omega (arith, h, count));
+      inside = λ j l. (let h = is.inside j l in omega (arith, h, count));
       all = ap (λ n. filter (is_fractional new) (front_units front) ++ units_on front.place n) count
           ∙ ap (λ us. filter (is_fractional new) (front_units front) ++ us) (sym (filter_all (is_fractional new) (units_on front.place (length old)) opened))
           ∙ sym (filter-append (is_fractional new) (front_units front) (units_on front.place (length old)))
@@ -106,10 +107,13 @@ stays_ahead old new front is long count fewer same =
 
 -- the front that is left, filled up
 pub filled_front : (values : List Value) (front still full : Front) → IsAhead values front → IsStanding values front still → IsFilled (length values) still full → IsFront values full
-filled_front values front still full ahead stand fill = record {
-  short = fill.short;
-  within = fill.within;
-  all = fill.all ∙ ap₂ (λ us k. us ++ units_on k (length values)) stand.is stand.place ∙ ahead.all;
-  enough = fill.enough;
-  fresh = λ k l. ahead.fresh k (omega (arith, l, fill.later, stand.place));
-}
+filled_front values front still full ahead stand fill =
+    let all : front_units full ++ units_on full.place (length values) ≡ fractional_units values = fill.all ∙ ap₂ (λ us k. us ++ units_on k (length values)) stand.is stand.place ∙ ahead.all in
+    record {
+      short = fill.short;
+      within = fill.within;
+      inside = λ j l. (let e = front_at values full fill.long all j l in rw e.0 (fractional_in values (get_or (fractional_units values) j 0) (order_going values j e.1)));
+      all = all;
+      enough = fill.enough;
+      fresh = λ k l. ahead.fresh k (omega (arith, l, fill.later, stand.place));
+    }

@@ -104,8 +104,8 @@ have_common units are = record {
   common = λ h. get_or units.firsts h 1;
   some = λ h. (are.firsts h).0;
   most = λ h. (are.firsts h).1;
-  some_den = λ k l. (let s = are.shares k l in omega (arith, s.below));
-  divides = λ k l. (are.shares k l).divides;
+  some_den = λ k l. omega (arith, are.below_one k l);
+  divides = are.divides;
   rises = are.rises;
 }
 

@@ -1,16 +1,16 @@
 -- A direction by an array.
-use Rattle.std.proofs.Common.{◌≡◌, ℕ, zero, suc, le_of_suc-le-suc, map, ◌+◌, ◌*◌, ◌/◌, ◌<◌, ◌≤◌, ◌^◌, nat_le, true, false, Some, None, List, [], ◌∷◌, ℤ, pos, take, length, get_or, arith, refl, sym, ap, ap₂, ◌∙◌, subst, inl, inr, length-take, get_or-take}
+use Rattle.std.proofs.Common.{◌≡◌, ℕ, zero, suc, le_of_suc-le-suc, map, ◌+◌, ◌*◌, ◌/◌, ◌<◌, ◌≤◌, ◌^◌, nat_le, false, fold, Option, Some, None, List, [], ◌∷◌, ℤ, pos, take, length, get_or, arith, refl, sym, ap, ap₂, ◌∙◌, subst, inl, inr, length-take, get_or-take}
 use Rattle.std.specs.Int.RustNames.{unsigned_abs}
-use Rattle.std.proofs.{lemmas.Bool.{and_from, and_parts, cases_Bool, cases_lt, le-leb, leb-true}, lemmas.List.Elements.{All-take}}
-use Rattle.std.proofs.{lemmas.List.{ext_get_or, length-map, get_or-map}, Math.Nat.{mul-le-mul_left, mul-le-mul_right}}
-use Rattle.smp_kernel.specs.{Vectors.{entry, IsZero, Within}, Reduced.{IsReduced, IsTooLong, primitive_part}}
-use Rattle.smp_moves.specs.{declared.lines.Ratio.{Ratio}, Ends.{entries_fit}, Moves.{Line}, Kept.Computed.{direction_on}}
-use Rattle.smp_moves.proofs.{FirstPlaces.{front_is, front_long}, LineEnds.{lowest_is}, Weights.{within_from, within_to}}
-use Rattle.smp_stratcube.specs.{Units.{Units, column, columns_of, share}, Kept.Gates.{held}}
+use Rattle.std.proofs.lemmas.Bool.{cases_Bool, cases_lt, false_from_ne_true, leb-true}
+use Rattle.std.proofs.{lemmas.List.{ext_get_or, length-map, get_or-map}, lemmas.List.Folds.{fold-map}, Math.Nat.{mul-div-le, mul-le-mul_left, mul-le-mul_right}}
+use Rattle.smp_kernel.specs.Vectors.{entry}
+use Rattle.smp_moves.specs.{declared.lines.Ratio.{Ratio}, Kept.Computed.{direction_fits}}
+use Rattle.smp_moves.proofs.LineEnds.{lowest_is}
+use Rattle.smp_stratcube.specs.{Units.{Units, column, columns_of, share}, Kept.Gates.{gated, held}}
 use Rattle.smp_moves.specs.Steps.{product, signed, common_multiple, products, scale_of, scaled}
-use Rattle.smp_stratcube.specs.Kept.Lines.{AreParts, IsPart, direction_fits, no_part, over, part}
+use Rattle.smp_stratcube.specs.Kept.Lines.{AreParts, IsPart, no_part, over, part}
 use Rattle.smp_moves.proofs.{Multiples.{AllSome}, Products.{entry-scaled, length-products, length-scaled}}
-use Rattle.smp_stratcube.proofs.{Gated.{gate_all, gate_held}, Parts.{times-div}}
+use Rattle.smp_stratcube.proofs.Gated.{gate_held}
 
 -- ---- arrays as lists
 
@@ -60,8 +60,10 @@ dens_some (r ∷ parts) (suc n) each = ((each 0 (omega arith)).some, dens_some p
 
 -- the scale of an array of products
 pub scale_held : (parts : List Ratio) (n : ℕ) → ((j : ℕ) → j < n → IsPart (part parts j)) →
-    gate_all (Some 1) (map (λ (r : Ratio). r.den) (take n parts)) ≡ held (common_multiple (map (λ (r : Ratio). r.den) (take n parts)))
-scale_held parts n each = gate_held 1 (map (λ (r : Ratio). r.den) (take n parts)) (omega arith) (dens_some parts n each)
+    fold (λ (m : Option ℕ) (r : Ratio). gated m r.den) (Some 1) (take n parts) ≡ held (common_multiple (map (λ (r : Ratio). r.den) (take n parts)))
+scale_held parts n each =
+    sym (fold-map gated (λ (r : Ratio). r.den) (Some 1) (take n parts))
+    ∙ gate_held 1 (map (λ (r : Ratio). r.den) (take n parts)) (omega arith) (dens_some parts n each)
 
 -- ---- sizes
 
@@ -89,34 +91,8 @@ pub over_most : (r : Ratio) (scale : ℕ) → IsPart r → scale ≤ 2 ^ 80 → 
 over_most r scale is narrow =
     let q : ℕ = scale / r.den in
     let a : r.num * q ≤ r.den * 2 ^ 44 * q = mul-le-mul_right q is.most in
-    let b : r.den * q ≤ scale = times-div scale r.den in
+    let b : r.den * q ≤ scale = mul-div-le scale r.den in
     omega (arith, a, b, narrow)
-
--- ---- the direction that arrays hold
-
-module _ (units : Units) (prefix : List ℕ) (w row : List ℤ) (n : ℕ) (lr : n ≤ length row) (is : take n row ≡ scaled (share units) (scale_of (share units) prefix w) prefix w) (past : (j : ℕ) → n ≤ j → entry row j ≡ pos 0) (some : IsZero (scaled (share units) (scale_of (share units) prefix w) prefix w) → ⊥) where
-  some_row : IsZero (take n row) → ⊥
-  some_row z = some (subst IsZero is z)
-
-  pub direction_is : (e : List ℤ) → length e ≡ length row → IsReduced row e → record { units = prefix; entries = take n e } ≡ direction_on (share units) prefix w
-  direction_is e le r = ap (λ es. record { units = prefix; entries = es }) (front_is row n past e lr le some_row r ∙ ap primitive_part is)
-
-  pub direction_long : IsTooLong row → direction_fits units prefix w ≡ false
-  direction_long t =
-      elim (cases_Bool (direction_fits units prefix w)) [
-        | inr f ↦ f
-        | inl h ↦ absurd (let parts = and_parts (nat_le (scale_of (share units) prefix w) (2 ^ 80)) (entries_fit (direction_on (share units) prefix w)) h in
-            front_long row n past some_row t (subst (Within (2 ^ 44)) (sym (ap primitive_part is)) (within_from (2 ^ 44) (direction_on (share units) prefix w).entries parts.1)))
-      ]
-
-  pub direction_within : scale_of (share units) prefix w ≤ 2 ^ 80 → (e : List ℤ) → length e ≡ length row → IsReduced row e → Within (2 ^ 44) e → direction_fits units prefix w ≡ true
-  direction_within scale e le r small =
-      and_from (nat_le (scale_of (share units) prefix w) (2 ^ 80)) (entries_fit (direction_on (share units) prefix w)) (le-leb (scale_of (share units) prefix w) (2 ^ 80) scale)
-      (subst (λ (l : Line). entries_fit l ≡ true) (direction_is e le r)
-      (within_to (2 ^ 44) (take n e) (front_small e small)))
-    where
-      front_small : (e : List ℤ) → Within (2 ^ 44) e → Within (2 ^ 44) (take n e)
-      front_small e small = All-take (λ x. unsigned_abs x ≤ 2 ^ 44) n e small
 
 -- ---- a scale that is held to the gate
 
@@ -128,21 +104,15 @@ held_some m k e =
     ]
 
 pub held_none : (m : ℕ) → None ≡ held m → nat_le m (2 ^ 80) ≡ false
-held_none m e =
-    elim (cases_Bool (nat_le m (2 ^ 80))) [
-      | inr f ↦ f
-      | inl t ↦ absurd (let some : None ≡ Some m = rw t at e in cc)
-    ]
-
-not_scaled : (units : Units) (prefix : List ℕ) (w : List ℤ) → nat_le (scale_of (share units) prefix w) (2 ^ 80) ≡ false → direction_fits units prefix w ≡ false
-not_scaled units prefix w f = rw f refl
+held_none m e = false_from_ne_true (nat_le m (2 ^ 80)) (λ t. (let some : None ≡ Some m = rw t at e in cc))
 
 -- the row that arrays of products hold, where their scale fits
 module _ (units : Units) (us : List ℕ) (ws : List ℤ) (parts : List Ratio) (n : ℕ) (lu : n ≤ length us) (lw : n ≤ length ws) (lp : n ≤ length parts) (are : AreParts units us ws n parts) where
-  pub row_wide : None ≡ held (common_multiple (map (λ (r : Ratio). r.den) (take n parts))) → direction_fits units (take n us) (take n ws) ≡ false
+  pub row_wide : None ≡ held (common_multiple (map (λ (r : Ratio). r.den) (take n parts))) → direction_fits (share units) (take n us) (take n ws) ≡ false
   row_wide e =
-      not_scaled units (take n us) (take n ws) (held_none (scale_of (share units) (take n us) (take n ws))
-      (subst (λ (rs : List Ratio). None ≡ held (common_multiple (map (λ (r : Ratio). r.den) rs))) (parts_are units us ws parts n lu lw lp are) e))
+      (let past = held_none (scale_of (share units) (take n us) (take n ws))
+      (subst (λ (rs : List Ratio). None ≡ held (common_multiple (map (λ (r : Ratio). r.den) rs))) (parts_are units us ws parts n lu lw lp are) e) in
+      rw past refl)
 
   row_held : (den : ℕ) → Some den ≡ held (common_multiple (map (λ (r : Ratio). r.den) (take n parts))) → (den ≡ scale_of (share units) (take n us) (take n ws)) × (scale_of (share units) (take n us) (take n ws) ≤ 2 ^ 80)
   row_held den e =

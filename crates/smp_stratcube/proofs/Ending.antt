@@ -1,25 +1,23 @@
 -- The values at the end of a line, unit by unit, and their common denominator.
-use Rattle.std.proofs.Common.{◌≡◌, ◌≢◌, ℕ, suc, ◌*◌, ◌/◌, ◌<◌, ◌≤◌, ◌^◌, ◌&&◌, nat_le, Bool, true, false, pos, Option, Some, List, [], ◌∷◌, ◌++◌, map, take, length, get_or, arith, refl, sym, ap, ◌∙◌, subst, inl, inr, suc-le-suc, length-take, get_or-take}
-use Rattle.std.specs.{List.{filter, range_with_len}, Option.{is_some}, Int.RustNames.{unsigned_abs}}
-use Rattle.std.proofs.{lemmas.Bool.{and_parts, cases_Bool, ne_eqb}, lemmas.List.{append-nil, get_or-map}, Math.Nat.{one-dvd}}
-use Rattle.std.proofs.lemmas.List.Elements.{filter-append}
-use Prim.Native.Nat.{◌∣◌}
-use Rattle.smp_kernel.proofs.Ring.{abs_zero, zero_or}
-use Rattle.smp_prob.specs.Shares.{Shares}
+use Rattle.std.proofs.Common.{◌≡◌, ℕ, suc, ◌*◌, ◌/◌, ◌<◌, ◌≤◌, ◌^◌, ◌&&◌, nat_le, Bool, true, false, pos, fold, Option, Some, List, [], ◌∷◌, ◌++◌, map, take, length, get_or, arith, refl, sym, ap, ◌∙◌, subst, inl, inr, suc-le-suc, length-take, get_or-take}
+use Rattle.std.specs.{List.{filter, range_with_len}, Option.{is_some}}
+use Rattle.std.proofs.{lemmas.Bool.{and_parts, cases_Bool}, lemmas.List.{append-nil}}
+use Rattle.std.proofs.{lemmas.List.Elements.{filter-append}, lemmas.List.Folds.{fold-map}, lemmas.List.Sums.{fold-append}}
+use Rattle.smp_prob.specs.{Given.{least_multiple}, Shares.{Shares}}
 use Rattle.smp_values.specs.Values.{fractional}
-use Rattle.smp_moves.specs.{declared.lines.Ratio.{Ratio}, declared.lines.Line.{Line as LineOfPlaces}, declared.reaches.Reach.{Reach}}
-use Rattle.smp_moves.specs.{Moves.{Line, entry_of}, Ends.{advanced, advanced_numbers, common_factor, end_of, lowest, reach}}
+use Rattle.smp_moves.specs.{declared.lines.Line.{Line as LineOfPlaces}, declared.reaches.Reach.{Reach}}
+use Rattle.smp_moves.specs.{Moves.{Line, entry_of}}
 use Rattle.smp_moves.specs.{Answers.{line_of}, Kept.Ends.{CanMove, IsOver}, Steps.{common_multiple}}
-use Rattle.smp_moves.proofs.{Entries.{order_within}, LineEnds.{divides_each, divides_first, full_positive, reached}}
-use Rattle.smp_moves.proofs.{LowestTerms.{lowest_scaled}, Places.{advanced_at, length_advanced}, Sizes.{can_advance, small_places}}
+use Rattle.smp_moves.proofs.{Entries.{order_within}, LineEnds.{reached}}
+use Rattle.smp_moves.proofs.{Sizes.{can_advance, small_places}}
 use Rattle.smp_stratcube.specs.{declared.fronts.Front.{Front}, declared.values.Value.{Value}, Units.{Units, IsUnits, first, stratum}}
-use Rattle.smp_stratcube.specs.Values.{AreValues, common_of, is_fractional, over_common, taken_over, value}
-use Rattle.smp_stratcube.specs.{Kept.Computed.{moves}, Kept.Fronts.{IsFront, front_units, units_on}, Laws.Units.{denominators, denominators_some, touched_units}}
-use Rattle.smp_stratcube.specs.{Kept.Gates.{gated, gathered, held, with_unit}, Kept.Moves.{IsAlong, end_gathered, moved_value}}
-use Rattle.smp_stratcube.specs.Laws.Ends.{after_fractional, after_values, moving, still}
+use Rattle.smp_stratcube.specs.Values.{AreValues, IsValue, common_of, is_fractional, over_common, value}
+use Rattle.smp_stratcube.specs.{Kept.Computed.{moved_value, values_along}, Kept.Fronts.{IsFront, front_units, units_on}, Laws.Units.{denominators, denominators_some, touched_units}}
+use Rattle.smp_stratcube.specs.{Kept.Gates.{gated, gathered, held, with_unit}, Kept.Moves.{IsAlong, end_gathered}}
+use Rattle.smp_stratcube.specs.Laws.Ends.{after_fractional, after_moved, along_at, along_still, length_along}
 use Rattle.smp_moves.proofs.{Multiples.{multiple_some, some_map}, Filtered.{filter_none, filter_twice}}
-use Rattle.smp_stratcube.specs.Laws.Taken.{length_over, length_taken, numer_over, over_values, taken_kept, taken_moved}
-use Rattle.smp_stratcube.proofs.{Ahead.{front_inside, unit_on}, Gated.{from_append, gate_all, gate_held}}
+use Rattle.smp_stratcube.specs.Laws.Taken.{length_over, numer_over, is_over}
+use Rattle.smp_stratcube.proofs.{Ahead.{unit_on}, Gated.{gate_all, gate_held}}
 
 -- ---- what some units add to a common denominator
 
@@ -85,11 +83,7 @@ module _ (count : ℕ) (values : List Value) (line : LineOfPlaces) (den : ℕ) (
   l = line_of line
 
   pub over : IsOver 1 (over_common den values)
-  over = (let v = over_values count values a.are den a.some a.narrow in record {
-    some = omega arith;
-    multiple = one-dvd den;
-    values = record { count = refl; positive = v.positive; narrow = v.narrow; each = v.each };
-  })
+  over = is_over count values a.are den a.some a.narrow
 
   pub some_size : 1 ≤ r.size
   some_size = subst (λ (x : Reach). 1 ≤ x.size) (sym a.is_reach) (reached 1 s over l a.is_line).some_size
@@ -109,75 +103,31 @@ module _ (count : ℕ) (values : List Value) (line : LineOfPlaces) (den : ℕ) (
       let w = order_within s (take line.number line.units) a.is_line.order j b in
       omega (arith, w, get_or-take line.number line.units j 0 h, length_over count values a.are den a.some, a.are.count)
 
-  abbrev last : Shares
-  last = end_of 1 (over_common den values) l
-
-  abbrev after : List Value
-  after = taken_over (moves l) values (end_of 1 (over_common den values) l)
-
-  -- the numerator and the denominator of a unit
-  abbrev full : ℕ
-  full = den * (reach (over_common den values) l).size
-
-  abbrev numbers : List ℕ
-  numbers = advanced_numbers (over_common den values).numer l (reach (over_common den values) l)
-
-  full_is : full / 1 ≡ full
-  full_is = omega arith
-
-  moved_at : (k : ℕ) → k < length values → entry_of l k ≢ pos 0 → value after k ≡ moved_value (value values k) den r (entry_of l k)
-  moved_at k inside ne =
-      let e : unsigned_abs (entry_of l k) ≢ 0 = λ z. ne (abs_zero (entry_of l k) z) in
-      let R : Reach = reach (over_common den values) l in
-      let g : ℕ = common_factor (full / 1) numbers in
-      let in_numbers : k < length numbers = omega (arith, inside, length_advanced s.numer l R, length_over count values a.are den a.some, a.are.count) in
-      let number : get_or numbers k 0 ≡ advanced (get_or s.numer k 0) R (entry_of l k) = advanced_at s.numer l R k (omega (arith, inside, length_over count values a.are den a.some, a.are.count)) in
-      let numer : get_or last.numer k 0 ≡ get_or numbers k 0 / g = get_or-map (λ n. n / g) numbers k 0 0 in_numbers in
-      let gn : g ∣ get_or numbers k 0 = divides_each (full / 1) numbers k in_numbers in
-      let gf : g ∣ full = subst (λ x. g ∣ x) full_is (divides_first (full / 1) numbers) in
-      let low : lowest (get_or numbers k 0 / g) (full / g) ≡ lowest (get_or numbers k 0) full = lowest_scaled (get_or numbers k 0) full g (full_positive 1 s over l a.is_line) gn gf in
-      taken_moved (moves l) values last k inside (moving l k ne)
-      ∙ ap (λ (x : ℕ). record { at = lowest x last.den; touched = true }) numer
-      ∙ ap (λ (x : Ratio). record { at = x; touched = true }) low
-      ∙ ap (λ (x : ℕ). record { at = lowest x full; touched = true }) (number ∙ ap (λ (x : ℕ). advanced x R (entry_of l k)) (numer_over count values a.are den a.some k))
-      ∙ ap (λ (x : Reach). record { at = lowest (advanced ((value values k).at.num * (den / (value values k).at.den)) x (entry_of l k)) (den * x.size); touched = true }) (sym a.is_reach)
-      ∙ (rw (ne_eqb (unsigned_abs (entry_of l k)) 0 e) refl)
-
-  pub moved_is : (k : ℕ) → k < length values → value (taken_over (moves (line_of line)) values (end_of 1 (over_common den values) (line_of line))) k ≡ moved_value (value values k) den r (entry_of (line_of line) k)
-  moved_is k inside =
-      elim (zero_or (entry_of l k)) [
-        | inl none ↦ taken_kept (moves l) values last k (still l k none) ∙ (rw none refl)
-        | inr ne ↦ moved_at k inside ne
-      ]
-
-  pub length_moved : length (taken_over (moves (line_of line)) values (end_of 1 (over_common den values) (line_of line))) ≡ length values
-  length_moved = length_taken (moves l) values last
-
 -- ---- the common denominator of a state and of the strata of a line
 
 pub line_held : (units : Units) (are : IsUnits units) (values : List Value) (front : Front) → AreValues (length units.members) values → IsFront values front → (ks : List ℕ) →
-    gate_all (gathered units (value values) (Some 1) (front_units front)) (map (first units) ks) ≡ held (common_of units values ks)
+    fold (λ (m : Option ℕ) k. gated m (first units k)) (gathered units (value values) (Some 1) (front_units front)) ks ≡ held (common_of units values ks)
 line_held units are values front ok is ks =
     let dens : List ℕ = denominators units values (touched_units values) in
-    ap (λ m. gate_all m (map (first units) ks)) (gathered_all units are values values front ok is refl (λ k h. h) is.fresh)
+    sym (fold-map gated (first units) (gathered units (value values) (Some 1) (front_units front)) ks)
+    ∙ ap (λ m. gate_all m (map (first units) ks)) (gathered_all units are values values front ok is refl (λ k h. h) is.fresh)
     ∙ gate_held (common_multiple dens) (map (first units) ks) (multiple_some dens (denominators_some units are (length units.members) values ok (touched_units values)))
     (some_map (first units) ks (λ k. (are.firsts (stratum units k)).0))
-    ∙ ap held (sym (from_append 1 dens (map (first units) ks)))
+    ∙ ap held (sym (fold-append least_multiple 1 dens (map (first units) ks)))
 
 -- the common denominator at the end of a line
 pub end_held : (units : Units) (are : IsUnits units) (values : List Value) (front : Front) (line : LineOfPlaces) (den : ℕ) (r : Reach) → IsAlong (length units.members) values line den r → IsFront values front → front.number ≤ length front.units →
     ((k : ℕ) → front.place ≤ k → entry_of (line_of line) k ≡ pos 0) →
-    end_gathered units values front (line_of line) den r ≡ nat_le (common_of units (taken_over (moves (line_of line)) values (end_of 1 (over_common den values) (line_of line))) []) (2 ^ 80)
+    end_gathered units values front (line_of line) den r ≡ nat_le (common_of units (values_along values (line_of line) den r) []) (2 ^ 80)
 end_held units are values front line den r a is long off =
     let n : ℕ = length units.members in
-    let new : List Value = taken_over (moves (line_of line)) values (end_of 1 (over_common den values) (line_of line)) in
-    let moved_there : ℕ → Value = λ k. moved_value (value values k) den r (entry_of (line_of line) k) in
+    let new : List Value = values_along values (line_of line) den r in
     ap is_some
-    (gathered_same units moved_there (value new) (Some 1) (front_units front)
+    (gathered_same units (λ k. moved_value (value values k) den r (entry_of (line_of line) k)) (value new) (Some 1) (front_units front)
     (λ j l. (let b : j < front.number = omega (arith, l, long, length-take front.number front.units) in
-    sym (moved_is n values line den r a (get_or (front_units front) j 0) (rw (get_or-take front.number front.units j 0 b) (front_inside values front is long j b)))))
+    sym (along_at values (line_of line) den r (get_or (front_units front) j 0) (rw (get_or-take front.number front.units j 0 b) (is.inside j b)))))
     ∙ gathered_all units are values new front
-    (after_values n values a.are den a.some a.narrow (line_of line) a.is_line a.divides) is (length_moved n values line den r a)
-    (after_fractional n values a.are den a.some a.narrow (line_of line) a.is_line a.divides)
-    (λ k l. ap (λ (v : Value). v.touched) (taken_kept (moves (line_of line)) values (end_of 1 (over_common den values) (line_of line)) k (still (line_of line) k (off k l))) ∙ is.fresh k l))
+    (record { count = length_along values (line_of line) den r ∙ a.are.count; each = subst (λ (x : Reach). (k : ℕ) → IsValue (value (values_along values (line_of line) den x) k)) (sym a.is_reach) (after_moved n values a.are den a.some a.narrow (line_of line) a.is_line a.divides).are.each }) is (length_along values (line_of line) den r)
+    (subst (λ (x : Reach). (k : ℕ) → is_fractional (values_along values (line_of line) den x) k ≡ true → is_fractional values k ≡ true) (sym a.is_reach) (after_fractional n values a.are den a.some a.narrow (line_of line) a.is_line a.divides))
+    (λ k l. ap (λ (v : Value). v.touched) (along_still values (line_of line) den r k (off k l)) ∙ is.fresh k l))
     ∙ ap (λ ds. is_some (held (common_multiple ds))) (sym (append-nil (denominators units new (touched_units new)))) ∙ held_there (common_of units new [])

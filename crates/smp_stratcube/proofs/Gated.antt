@@ -1,6 +1,6 @@
 -- A common multiple that is held to the gate.
-use Rattle.std.proofs.Common.{◌≡◌, ℕ, ◌≤◌, ◌<◌, ◌^◌, nat_le, Option, Some, None, List, [], ◌∷◌, ◌++◌, arith, inl, inr, refl, subst, ap}
-use Rattle.std.specs.Prelude.{IfSome, IfNone}
+use Rattle.std.proofs.Common.{◌≡◌, ℕ, ◌≤◌, ◌<◌, ◌^◌, nat_le, Option, Some, None, List, [], ◌∷◌, arith, inl, inr, refl, subst, ap}
+use Rattle.std.specs.Prelude.{IfSome, IfNone, fold}
 use Rattle.std.proofs.{lemmas.Bool.{cases_Bool, le-leb, leb-false, lt-leb}, Math.Nat.{le_of_dvd}}
 use Rattle.smp_frac.specs.Divisors.{IsCommonMultiple, IsLeastMultiple}
 use Rattle.smp_prob.specs.Given.{least_multiple}
@@ -21,8 +21,7 @@ gated_is None m n pm pn is within passes =
 
 -- that of a number and others, where all of it is held to the gate
 abbrev pub gate_all : Option ℕ → List ℕ → Option ℕ
-gate_all m [] = m
-gate_all m (n ∷ ns) = gate_all (gated m n) ns
+gate_all = fold gated
 
 pub gate_none : (ns : List ℕ) → gate_all None ns ≡ None
 gate_none [] = refl
@@ -39,7 +38,3 @@ gate_held m (n ∷ ns) some all =
           let whole : m ≤ from (least_multiple m n) ns = le_of_dvd (from_some m (n ∷ ns) some all) (from_start m (n ∷ ns) some all) in
           rw (f, lt-leb (from (least_multiple m n) ns) (2 ^ 80) (omega (arith, past, whole))) (gate_none ns))
     ]
-
-pub from_append : (m : ℕ) (xs ys : List ℕ) → from m (xs ++ ys) ≡ from (from m xs) ys
-from_append m [] ys = refl
-from_append m (x ∷ xs) ys = from_append (least_multiple m x) xs ys

@@ -1,68 +1,59 @@
 -- The units of a line are written one by one.
-use Rattle.std.proofs.Common.{◌≡◌, ◌≢◌, ℕ, ◌+◌, ◌<◌, ◌≤◌, List, ℤ, pos, take, length, get_or, set, arith, inl, inr, refl, sym, ap, ◌∙◌, subst, length-take, get_or-take}
+use Rattle.std.proofs.Common.{◌≡◌, ◌≢◌, ℕ, zero, suc, ◌+◌, ◌<◌, ◌≤◌, cond, nat_eq, List, [], ◌∷◌, ℤ, pos, take, length, get_or, set, arith, inl, inr, refl, sym, ap, ◌∙◌, subst, suc-le-suc, le_of_suc-le-suc, length-take, get_or-take}
 use Rattle.std.specs.List.{AllPairs}
 use Rattle.std.proofs.{lemmas.Bool.{cases_eq, eq-eqb, ne_eqb}, lemmas.List.{get_or-set_same, get_or-set_other}}
 use Rattle.smp_kernel.specs.Vectors.{entry}
 use Rattle.smp_moves.specs.{declared.reaches.Reach.{Reach}, Moves.{entry_at, entry_of}, Answers.{line_of}}
 use Rattle.smp_moves.specs.declared.lines.Line.{Line as LineOfPlaces}
-use Rattle.smp_moves.proofs.{Entries.{entry_at_none, entry_at_place, place_or}, Places.{entry_step, length-rest, rest_is, rest_of}}
-use Rattle.smp_stratcube.specs.{declared.values.Value.{Value}, Values.{nothing, value}, Kept.Moves.{moved_value}}
+use Rattle.smp_moves.proofs.Entries.{entry_at_place}
+use Rattle.smp_stratcube.specs.{declared.values.Value.{Value}, Values.{nothing, value}, Kept.Computed.{moved_value}}
 
--- the entry at a unit from place j on of a line
-abbrev pub entry_left : ℕ → List ℕ → List ℤ → ℕ → ℕ → ℤ
-entry_left n us es j k = entry_at (rest_of n us j) (rest_of n es j) k
+-- the entries of the first units with one more, at another unit
+entry_other : (us : List ℕ) (es : List ℤ) (j k : ℕ) → j < length us → j < length es → get_or us j 0 ≢ k → entry_at (take (j + 1) us) (take (j + 1) es) k ≡ entry_at (take j us) (take j es) k
+entry_other [] es j k l m ne = absurd (omega arith)
+entry_other (u ∷ us) [] j k l m ne = absurd (omega arith)
+entry_other (u ∷ us) (e ∷ es) zero k l m ne = rw (ne_eqb u k ne) refl
+entry_other (u ∷ us) (e ∷ es) (suc j) k l m ne =
+    let s : suc j + 1 ≡ suc (j + 1) = omega arith in
+    rw s (ap (λ (z : ℤ). cond (nat_eq u k) e z) (entry_other us es j k (le_of_suc-le-suc l) (le_of_suc-le-suc m) ne))
 
--- no unit from the next place on is that of the place
-rest_apart : (n : ℕ) (us : List ℕ) (j : ℕ) → j < n → AllPairs (λ k l. k ≢ l) (take n us) → (i : ℕ) → i < length (rest_of n us (j + 1)) → get_or (rest_of n us (j + 1)) i 0 ≡ get_or us j 0 → ⊥
-rest_apart n us j l apart i m e =
-    let count = length-rest n us (j + 1) in
-    let within : j + 1 + i < length (take n us) = omega (arith, m, count) in
-    apart j (j + 1 + i) 0 (omega arith) within
-    (get_or-take n us j 0 l ∙ sym e ∙ rest_is n us (j + 1) i)
+-- at this one, which isn't met before
+entry_here : (us : List ℕ) (es : List ℤ) (j : ℕ) → j < length us → j < length es → ((i : ℕ) → i < j → get_or us i 0 ≢ get_or us j 0) → (entry_at (take j us) (take j es) (get_or us j 0) ≡ pos 0) × (entry_at (take (j + 1) us) (take (j + 1) es) (get_or us j 0) ≡ entry es j)
+entry_here [] es j l m far = absurd (omega arith)
+entry_here (u ∷ us) [] j l m far = absurd (omega arith)
+entry_here (u ∷ us) (e ∷ es) zero l m far = (refl, rw (eq-eqb u u refl) refl)
+entry_here (u ∷ us) (e ∷ es) (suc j) l m far =
+    let s : suc j + 1 ≡ suc (j + 1) = omega arith in
+    let both = entry_here us es j (le_of_suc-le-suc l) (le_of_suc-le-suc m) (λ i k. far (suc i) (suc-le-suc k)) in
+    let ne : u ≢ get_or us j 0 = far 0 (omega arith) in
+    (rw (ne_eqb u (get_or us j 0) ne) both.0, rw (s, ne_eqb u (get_or us j 0) ne) both.1)
 
-module _ (n : ℕ) (us : List ℕ) (es : List ℤ) (lu : n ≤ length us) (le : n ≤ length es) (apart : AllPairs (λ k l. k ≢ l) (take n us)) (j : ℕ) (l : j < n) where
+module _ (n : ℕ) (us : List ℕ) (es : List ℤ) (lu : n ≤ length us) (le : n ≤ length es) (apart : AllPairs (λ k l. k ≢ l) (take n us)) (j : ℕ) (l : j < n) (den : ℕ) (r : Reach) (now old : List Value) where
   abbrev unit : ℕ
   unit = get_or us j 0
 
-  -- a unit isn't met again
-  once : entry_left n us es (j + 1) (get_or us j 0) ≡ pos 0
-  once =
-      elim (place_or (rest_of n us (j + 1)) unit) [
-        | inr out ↦ entry_at_none (rest_of n us (j + 1)) (rest_of n es (j + 1)) unit out
-        | inl h ↦ absurd (rest_apart n us j l apart h.0 h.1 h.2)
-      ]
+  here : (entry_at (take j us) (take j es) (get_or us j 0) ≡ pos 0) × (entry_at (take (j + 1) us) (take (j + 1) es) (get_or us j 0) ≡ entry es j)
+  here = entry_here us es j (omega (arith, l, lu)) (omega (arith, l, le))
+      (λ i k e. apart i j 0 k (omega (arith, l, lu, length-take n us)) (get_or-take n us i 0 (omega (arith, k, l)) ∙ e ∙ sym (get_or-take n us j 0 l)))
 
-  here : entry_left n us es j (get_or us j 0) ≡ entry es j
-  here = entry_step n us es unit j l (omega (arith, l, lu)) (omega (arith, l, le)) ∙ (rw (eq-eqb unit unit refl) refl)
+  module _ (so_far : (k : ℕ) → k < length old → value now k ≡ moved_value (value old k) den r (entry_at (take j us) (take j es) k)) (inside : get_or us j 0 < length old) where
+    -- a unit that isn't written yet is as it was
+    pub still_there : value now (get_or us j 0) ≡ value old (get_or us j 0)
+    still_there = so_far unit inside ∙ ap (moved_value (value old unit) den r) here.0
 
-  other : (k : ℕ) → unit ≢ k → entry_left n us es j k ≡ entry_left n us es (j + 1) k
-  other k ne = entry_step n us es k j l (omega (arith, l, lu)) (omega (arith, l, le)) ∙ (rw (ne_eqb unit k ne) refl)
-
-  module _ (den : ℕ) (r : Reach) (now : List Value) (inside : unit < length now) where
-    abbrev written : List Value
-    written = set now (get_or us j 0) (moved_value (value now (get_or us j 0)) den r (entry es j))
-
-    pub gone_further : (k : ℕ) → moved_value (value (set now (get_or us j 0) (moved_value (value now (get_or us j 0)) den r (entry es j))) k) den r (entry_left n us es (j + 1) k) ≡ moved_value (value now k) den r (entry_left n us es j k)
-    gone_further k =
+    pub gone_further : get_or us j 0 < length now → (k : ℕ) → k < length old →
+        value (set now (get_or us j 0) (moved_value (value now (get_or us j 0)) den r (entry es j))) k ≡ moved_value (value old k) den r (entry_at (take (j + 1) us) (take (j + 1) es) k)
+    gone_further within k b =
+        let written : Value = moved_value (value now unit) den r (entry es j) in
         elim (cases_eq unit k) [
           | inr ne ↦
-              ap (λ (v : Value). moved_value v den r (entry_left n us es (j + 1) k)) (get_or-set_other now unit k (moved_value (value now unit) den r (entry es j)) nothing (λ e. ne (sym e)))
-              ∙ ap (moved_value (value now k) den r) (sym (other k ne))
+              get_or-set_other now unit k written nothing (λ e. ne (sym e)) ∙ so_far k b
+              ∙ ap (moved_value (value old k) den r) (sym (entry_other us es j k (omega (arith, l, lu)) (omega (arith, l, le)) ne))
           | inl e ↦
-              subst (λ (i : ℕ). moved_value (value written i) den r (entry_left n us es (j + 1) i) ≡ moved_value (value now i) den r (entry_left n us es j i)) e
-              (ap (λ (z : ℤ). moved_value (value written unit) den r z) once
-              ∙ get_or-set_same now unit (moved_value (value now unit) den r (entry es j)) nothing inside
-              ∙ ap (moved_value (value now unit) den r) (sym here))
+              subst (λ (i : ℕ). value (set now unit written) i ≡ moved_value (value old i) den r (entry_at (take (j + 1) us) (take (j + 1) es) i)) e
+              (get_or-set_same now unit written nothing within ∙ ap (λ (v : Value). moved_value v den r (entry es j)) still_there
+              ∙ ap (moved_value (value old unit) den r) (sym here.1))
         ]
-
-    -- what isn't written yet is as it was
-    pub stays_left : (old : List Value) → ((i : ℕ) → j ≤ i → i < n → value now (get_or us i 0) ≡ value old (get_or us i 0)) → (i : ℕ) → j + 1 ≤ i → i < n →
-        value (set now (get_or us j 0) (moved_value (value now (get_or us j 0)) den r (entry es j))) (get_or us i 0) ≡ value old (get_or us i 0)
-    stays_left old h i m b =
-        let ne = apart j i 0 (omega (arith, m)) (omega (arith, b, lu, length-take n us)) in
-        get_or-set_other now unit (get_or us i 0) (moved_value (value now unit) den r (entry es j)) nothing
-        (λ e. ne (get_or-take n us j 0 l ∙ sym e ∙ sym (get_or-take n us i 0 b)))
-        ∙ h i (omega (arith, m)) b
 
 -- the entry at a unit of a line
 pub entry_on : (line : LineOfPlaces) → line.number ≤ length line.units → line.number ≤ length line.entries → AllPairs (λ k l. k ≢ l) (take line.number line.units) → (j : ℕ) → j < line.number → entry_of (line_of line) (get_or line.units j 0) ≡ entry line.entries j

@@ -6,24 +6,23 @@ use Rattle.smp_split.specs.{Trees.{EachPart, picked, weight_sum}, Laws.Parts.{pi
 use Rattle.smp_moves.specs.{Owed.{HasKept}, Cubes.{flying, landed, pairing, values_in}}
 use Rattle.smp_stratcube.specs.{Kept.Trees.{flight_parts, strat_parts, weighed_of}, declared.fronts.Front.{Front}, Units.{Units, share}}
 use Rattle.smp_stratcube.proofs.{Balances.{paired_kept}, Ahead.{front_before, stays_ahead}, Pairing.{pair_of_front}, Stepped.{off_units}}
-use Rattle.smp_moves.specs.Moves.{Line, Move, Next, chosen_line, independent, move, wide}
-use Rattle.smp_stratcube.specs.{declared.state.Phase.{Phase}, declared.state.Phase.TheVariants.{Flying, Pairing}, Kept.Moves.{IsStep}}
-use Rattle.smp_stratcube.specs.{declared.values.Value.{Value}, States.{Balancing, Flight, IsFlying, IsPairing}, Kept.States.{balancing_of}}
-use Rattle.smp_stratcube.specs.{Values.{fractional_count, fractional_units, is_fractional, is_settled, value}, Laws.Ends.{still}}
-use Rattle.smp_stratcube.specs.{Kept.Computed.{chosen, moved_values, moves, next, flight_of}, Pairs.{first_pair, paired_parts, step_units}}
+use Rattle.smp_moves.specs.{Moves.{Line, Move, Next, chosen_line, independent, move, wide}, Kept.Computed.{direction, IsKnown, dropped}}
+use Rattle.smp_stratcube.specs.{Kept.Moves.{IsStep}, Laws.Pairs.{each_of, each_taken, stands_at, step_is}}
+use Rattle.smp_moves.specs.{declared.phases.Phase.{Phase}, declared.phases.Phase.TheVariants.{Flying, Pairing}, Kept.Phases.{balancing_of}}
+use Rattle.smp_stratcube.specs.{declared.values.Value.{Value}, States.{Balancing, Flight, IsFlying, IsPairing}}
+use Rattle.smp_stratcube.specs.{Values.{fractional_count, fractional_units, is_fractional, is_settled, value}, Laws.Ends.{along_still, length_along}}
+use Rattle.smp_stratcube.specs.{Kept.Computed.{chosen, moved_values, next, flight_of}, Pairs.{first_pair, paired_parts, step_units}}
 use Rattle.smp_stratcube.specs.{Kept.Pairs.{is_one_of, units_by}, Kept.Fronts.{IsAhead, IsFront, front_units}, Moves.{setting_of}}
 use Rattle.smp_stratcube.specs.{declared.steps.Next.{Next as Answer}, Laws.Nexts.{end_is}}
-use Rattle.smp_stratcube.specs.Laws.Pairs.{each_of, each_taken, stands_at, step_is}
 use Rattle.smp_stratcube.specs.Laws.Taken.{length_taken, taken_kept}
 use Rattle.smp_stratcube.proofs.Written.{alone, some_front}
-use Rattle.smp_moves.specs.Kept.Computed.{direction, IsKnown, dropped}
 use Rattle.smp_moves.proofs.Computed.{known}
 
 -- ---- the values of a state
 
-pub values_of : (of : Units) (p : Phase) (values : List Value) (rows left : ℕ) → values_in (balancing_of of p values rows left) ≡ values
-values_of of Flying values rows left = refl
-values_of of Pairing values rows left = refl
+pub values_of : (p : Phase) (f : Flight) (left : ℕ) → values_in (balancing_of p f f.values left) ≡ f.values
+values_of Flying f left = refl
+values_of Pairing f left = refl
 
 -- ---- a state in flight
 
@@ -87,10 +86,10 @@ module _ (units : Units) (f : Flight) (ok : IsFlying units f) (front : Front) (i
   -- a line through the units of the direction
   same_behind : (l : Line) → l.units ≡ line.units → (u : ℕ) → front.place ≤ u → value (moved_values units f.values l) u ≡ value f.values u
   same_behind l same u past =
-      taken_kept (moves l) f.values _ u (still l u (off_units units f ok front is long few k.circuit k.finds l.units l.entries same u past))
+      along_still f.values l _ _ u (off_units units f ok front is long few k.circuit k.finds l.units l.entries same u past)
 
   pub move_count : (plus : Bool) → length (chosen units f m plus).values ≡ length f.values
-  move_count plus = length_taken (moves (chosen_line m plus)) f.values _
+  move_count plus = length_along f.values (chosen_line m plus) _ _
 
   pub move_ahead : (plus : Bool) → IsAhead (chosen units f m plus).values front
   move_ahead plus =

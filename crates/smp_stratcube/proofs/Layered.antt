@@ -1,6 +1,6 @@
 -- The units of some strata are units that can be balanced.
-use Rattle.std.proofs.Common.{◌≡◌, ◌≢◌, ℕ, zero, suc, ◌+◌, ◌-◌, ◌*◌, ◌/◌, ◌^◌, ◌<◌, ◌≤◌, ℤ, pos, List, [], ◌∷◌, ◌++◌, map, set, length, get_or, arith, sym, ap, ◌∙◌, subst, inl, inr, mul-pos, suc-le-suc, le_of_suc-le-suc, length-append}
-use Rattle.std.specs.{Int.RustNames.{unsigned_abs}, Prelude.{replicate}, List.{range_with_len}}
+use Rattle.std.proofs.Common.{◌≡◌, ◌≢◌, ℕ, zero, suc, ◌+◌, ◌-◌, ◌*◌, ◌/◌, ◌^◌, ◌<◌, ◌≤◌, ℤ, pos, List, [], ◌∷◌, ◌++◌, map, set, length, get_or, arith, refl, sym, ap, ◌∙◌, subst, inl, inr, mul-pos, suc-le-suc, le_of_suc-le-suc, length-append}
+use Rattle.std.specs.{Int.{IsGcd}, Int.RustNames.{unsigned_abs}, Prelude.{replicate}, List.{range_with_len}}
 use Rattle.std.proofs.{lemmas.Bool.{cases_lt}, lemmas.List.Elements.{All-append, All-replicate, All-set, All-take}}
 use Rattle.std.proofs.lemmas.List.{get_or-append_right, get_or-map, get_or-replicate, get_or-set_other, get_or-set_same, get_or_append_left, get_or_past, length-map, length-replicate}
 use Rattle.std.proofs.{lemmas.List.FromFn.{get_or-map-range_with_len, length-map-range_with_len}, lemmas.Nat.Gcd.{dvd_trans}, Math.Nat.{dvd-mul_left}}
@@ -14,7 +14,7 @@ use Rattle.smp_values.proofs.Fractional.{fractional_is, is_fractional-between}
 use Rattle.smp_moves.specs.{declared.lines.Ratio.{Ratio}, Ends.{lowest}, Moves.{fraction_of}}
 use Rattle.smp_moves.proofs.{LineEnds.{lowest_is}, LowestTerms.{lowest_scaled}, Proportions.{as_product}}
 use Rattle.smp_stratcube.specs.{declared.units.Member.{Member}, Layers.{AreLayers, IsLayer, Layer, no_layer}, Kept.Layers.{first_of}}
-use Rattle.smp_stratcube.specs.Units.{IsShare, IsUnits, Units, column, column_of, first, member_of, members_from, nobody, share, stratum, units_of}
+use Rattle.smp_stratcube.specs.Units.{IsUnits, column_of, member_of, members_from, nobody, units_of}
 use Rattle.smp_stratcube.specs.{Laws.Taken.{lowest_divides, lowest_fractional, lowest_same}, Requests.{offset}}
 use Rattle.smp_stratcube.proofs.Stored.{in_front}
 
@@ -48,34 +48,25 @@ at_offset strata h0 (layer ∷ layers) (suc h) place l m =
     ∙ ap (λ i. member_of strata i (get_or layers h no_layer) place) (let e : suc h0 + h ≡ h0 + suc h = omega arith in e)
 
 -- the k-th unit is a unit of a stratum
-pub record IsOf (strata h0 : ℕ) (layers : List Layer) (k : ℕ) : Type 0 where
+pub record IsOf (layers : List Layer) (k : ℕ) : Type 0 where
   pub h : ℕ
   pub place : ℕ
   pub in_h : h < length layers
   pub inside : place < length (get_or layers h no_layer).request.shape
   pub at : k ≡ offset layers h + place
-  pub is : get_or (members_from strata h0 layers) k nobody ≡ member_of strata (h0 + h) (get_or layers h no_layer) place
 
-pub unit_of : (strata h0 : ℕ) (layers : List Layer) (k : ℕ) → k < length (members_from strata h0 layers) → IsOf strata h0 layers k
+pub unit_of : (strata h0 : ℕ) (layers : List Layer) (k : ℕ) → k < length (members_from strata h0 layers) → IsOf layers k
 unit_of strata h0 [] k l = absurd (omega (arith, l))
 unit_of strata h0 (layer ∷ layers) k l =
-    let n : ℕ = length layer.request.shape in
-    elim (cases_lt k n) [
-      | inl b ↦ is_of 0 k (omega arith) b (omega arith)
+    elim (cases_lt k (length layer.request.shape)) [
+      | inl b ↦ record { h = 0; place = k; in_h = omega arith; inside = b; at = omega arith }
       | inr b ↦
-          (let r = unit_of strata (suc h0) layers (k - n) (omega (arith, l, b, length-own strata h0 layer, length-append (own strata h0 layer) (members_from strata (suc h0) layers))) in
-          is_of (suc r.h) r.place (suc-le-suc r.in_h) r.inside (omega (arith, r.at, b)))
+          (let r = unit_of strata (suc h0) layers (k - length layer.request.shape) (omega (arith, l, b, length-own strata h0 layer, length-append (own strata h0 layer) (members_from strata (suc h0) layers))) in
+          record { h = suc r.h; place = r.place; in_h = suc-le-suc r.in_h; inside = r.inside; at = omega (arith, r.at, b) })
     ]
-  where
-    is_of : (h place : ℕ) → h < length (layer ∷ layers) → place < length (get_or (layer ∷ layers) h no_layer).request.shape → k ≡ offset (layer ∷ layers) h + place → IsOf strata h0 (layer ∷ layers) k
-    is_of h place in_h inside at = record {
-      h = h;
-      place = place;
-      in_h = in_h;
-      inside = inside;
-      at = at;
-      is = ap (λ i. get_or (members_from strata h0 (layer ∷ layers)) i nobody) at ∙ at_offset strata h0 (layer ∷ layers) h place in_h inside;
-    }
+
+pub unit_is : (strata h0 : ℕ) (layers : List Layer) (k : ℕ) (r : IsOf layers k) → get_or (members_from strata h0 layers) k nobody ≡ member_of strata (h0 + r.h) (get_or layers r.h no_layer) r.place
+unit_is strata h0 layers k r = ap (λ i. get_or (members_from strata h0 layers) i nobody) r.at ∙ at_offset strata h0 layers r.h r.place r.in_h r.inside
 
 -- the offsets rise
 offset_rises : (layers : List Layer) (g h place : ℕ) → g < h → h < length layers → place < length (get_or layers g no_layer).request.shape → offset layers g + place < offset layers h
@@ -117,113 +108,85 @@ module _ (strata h size : ℕ) (xs : List ℤ) (lh : h < strata) (few : strata +
       (All-append P front xs (All-set P (replicate strata (pos 0)) h (pos size) le (All-replicate P strata (pos 0) none)) w)
       (All-replicate P 16 (pos 0) none))
 
--- ---- its probability
-
-pub share_is : (layer : Layer) → IsLayer layer → (k : ℕ) → k < length layer.request.shape → IsShare (first_of layer) (lowest (get_or layer.request.shape k 0 * layer.request.r) layer.request.total)
-share_is layer is k l =
-    let a : ℕ = get_or layer.request.shape k 0 * layer.request.r in
-    let total : ℕ = layer.request.total in
-    let free : 1 ≤ length layer.request.free = omega (arith, l, is.request.paired) in
-    let below : a < total = is.request.below_one k l in
-    let some : 1 ≤ total = omega (arith, below) in
-    let between = fractional_is (lowest a total).den (lowest a total).num
-    (lowest_fractional a total some ∙ is_fractional-between total a (mul-pos (is.request.positive k l) (is.request.drawn free)) below) in
-    let g : ℕ = greatest_common_divisor total layer.request.r in
-    let common = IsGcd-greatest_common_divisor total layer.request.r in
-    record {
-      some = between.0;
-      below = between.1;
-      reduced = (lowest_is a total some).reduced;
-      divides = subst (λ (n : ℕ). (lowest a total).den ∣ n) (sym (denominator_is layer.request is.request free))
-          (subst (λ (q : Ratio). q.den ∣ total / g) (lowest_scaled a total g some (dvd_trans g common.1 (dvd-mul_left layer.request.r (get_or layer.request.shape k 0))) common.0)
-          (lowest_divides (a / g) (total / g)));
-    }
-
 -- ---- all of it
 
 module _ (layers : List Layer) (are : AreLayers layers) (each : (h : ℕ) → h < length layers → IsLayer (get_or layers h no_layer)) where
-  abbrev units : Units
-  units = units_of layers
-
-  abbrev strata : ℕ
-  strata = length layers
-
-  of : (k : ℕ) → k < length (members_from strata 0 layers) → IsOf strata 0 layers k
-  of k l = unit_of strata 0 layers k l
-
-  in_stratum : (k : ℕ) (l : k < length (members_from strata 0 layers)) → (get_or (members_from strata 0 layers) k nobody).stratum ≡ (of k l).h
-  in_stratum k l = ap (λ (m : Member). m.stratum) (of k l).is ∙ (let e : 0 + (of k l).h ≡ (of k l).h = omega arith in e)
+  abbrev members : List Member
+  members = members_from (length layers) 0 layers
 
   first_at : (h : ℕ) → h < length layers → get_or (map first_of layers) h 1 ≡ first_of (get_or layers h no_layer)
   first_at h l = get_or-map first_of layers h no_layer 1 l
 
-  values_few : (h place : ℕ) → h < length layers → place < length (get_or layers h no_layer).request.shape → strata + length (get_or (get_or layers h no_layer).values place []) ≤ 16
-  values_few h place l m =
-      let is = each h l in
-      let same = is.numbers.same place (omega (arith, m, is.one_each, is.request.paired)) in
-      let all = are.same h l (omega (arith, m)) in
-      omega (arith, same, all, are.rows)
+  -- what holds of each unit
+  record IsMember (m : Member) : Type 0 where
+    within : m.stratum < length layers
+    drawn : 0 < m.share.num
+    below_one : m.share.num < m.share.den
+    reduced : IsGcd m.share.num m.share.den 1
+    divides : m.share.den ∣ get_or (map first_of layers) m.stratum 1
+    small : Within (2 ^ 31 - 1) m.column
+    some : 1 ≤ unsigned_abs (entry m.column m.stratum)
+    own : entry m.column m.stratum ≡ pos (unsigned_abs (entry m.column m.stratum))
+    others : (row : ℕ) → row < length layers → row ≢ m.stratum → entry m.column row ≡ pos 0
+    proportional : Same (fraction_of m.share) (times (over (get_or layers m.stratum no_layer).request.r (get_or layers m.stratum no_layer).request.total) (whole (unsigned_abs (entry m.column m.stratum))))
 
-  rises : (j k : ℕ) → j ≤ k → k < length (members_from strata 0 layers) → (get_or (members_from strata 0 layers) j nobody).stratum ≤ (get_or (members_from strata 0 layers) k nobody).stratum
+  member_is : (h place : ℕ) → h < length layers → place < length (get_or layers h no_layer).request.shape → IsMember (member_of (length layers) h (get_or layers h no_layer) place)
+  member_is h place l inside =
+      let layer : Layer = get_or layers h no_layer in
+      let is = each h l in
+      let size : ℕ = get_or layer.request.shape place 0 in
+      let xs : List ℤ = get_or layer.values place [] in
+      let here : place < length layer.values = omega (arith, inside, is.one_each, is.request.paired) in
+      let few : length layers + length xs ≤ 16 = (let all = are.same h l (omega (arith, inside)) in omega (arith, is.numbers.same place here, all, are.rows)) in
+      let own : entry (column_of (length layers) h size xs) h ≡ pos size = own_row (length layers) h size xs l few in
+      let small = is.request.small place inside in
+      let a : ℕ = size * layer.request.r in
+      let total : ℕ = layer.request.total in
+      let free : 1 ≤ length layer.request.free = omega (arith, inside, is.request.paired) in
+      let below : a < total = is.request.below_one place inside in
+      let some : 1 ≤ total = omega (arith, below) in
+      let between = fractional_is (lowest a total).den (lowest a total).num
+      (lowest_fractional a total some ∙ is_fractional-between total a (mul-pos (is.request.positive place inside) (is.request.drawn free)) below) in
+      let g : ℕ = greatest_common_divisor total layer.request.r in
+      let common = IsGcd-greatest_common_divisor total layer.request.r in
+      record {
+        within = l;
+        drawn = between.0;
+        below_one = between.1;
+        reduced = (lowest_is a total some).reduced;
+        divides = subst (λ (n : ℕ). (lowest a total).den ∣ n) (sym (first_at h l ∙ denominator_is layer.request is.request free))
+            (subst (λ (q : Ratio). q.den ∣ total / g) (lowest_scaled a total g some (dvd_trans g common.1 (dvd-mul_left layer.request.r size)) common.0)
+            (lowest_divides (a / g) (total / g)));
+        small = small_column (length layers) h size xs l few (omega (arith, small)) (is.numbers.within place here);
+        some = rw own (is.request.positive place inside);
+        own = rw own refl;
+        others = other_row (length layers) h size xs l few;
+        proportional = rw own (same_trans (lowest_same a total some) (as_product size layer.request.r total some));
+      }
+
+  -- the stratum of each unit, and where it stands there
+  of : (k : ℕ) → k < length members → IsOf layers k
+  of k l = unit_of (length layers) 0 layers k l
+
+  is_unit : (k : ℕ) (l : k < length members) → get_or members k nobody ≡ member_of (length layers) (of k l).h (get_or layers (of k l).h no_layer) (of k l).place
+  is_unit k l = unit_is (length layers) 0 layers k (of k l) ∙ ap (λ i. member_of (length layers) i (get_or layers (of k l).h no_layer) (of k l).place) (let e : 0 + (of k l).h ≡ (of k l).h = omega arith in e)
+
+  at : (k : ℕ) → k < length members → IsMember (get_or members k nobody)
+  at k l = subst IsMember (sym (is_unit k l)) (member_is (of k l).h (of k l).place (of k l).in_h (of k l).inside)
+
+  rises : (j k : ℕ) → j ≤ k → k < length members → (get_or members j nobody).stratum ≤ (get_or members k nobody).stratum
   rises j k l m =
-      let b : j < length (members_from strata 0 layers) = omega (arith, l, m) in
+      let b : j < length members = omega (arith, l, m) in
       let a = of j b in
       let c = of k m in
       elim (cases_lt c.h a.h) [
-        | inr h ↦ omega (arith, h, in_stratum j b, in_stratum k m)
+        | inr h ↦ omega (arith, h, ap (λ (x : Member). x.stratum) (is_unit j b), ap (λ (x : Member). x.stratum) (is_unit k m))
         | inl h ↦ absurd (let r = offset_rises layers c.h a.h c.place h a.in_h c.inside in omega (arith, r, a.at, c.at, l))
       ]
 
-  is_unit : (k : ℕ) (l : k < length (members_from strata 0 layers)) → get_or (members_from strata 0 layers) k nobody ≡ member_of strata (of k l).h (get_or layers (of k l).h no_layer) (of k l).place
-  is_unit k l = (of k l).is ∙ ap (λ i. member_of strata i (get_or layers (of k l).h no_layer) (of k l).place) (let e : 0 + (of k l).h ≡ (of k l).h = omega arith in e)
-
-  -- the column of a unit
-  module _ (k : ℕ) (l : k < length (members_from strata 0 layers)) where
-    abbrev h : ℕ
-    h = (of k l).h
-
-    abbrev layer : Layer
-    layer = get_or layers (of k l).h no_layer
-
-    abbrev place : ℕ
-    place = (of k l).place
-
-    is_layer : IsLayer layer
-    is_layer = each h (of k l).in_h
-
-    few : strata + length (get_or layer.values place []) ≤ 16
-    few = values_few h place (of k l).in_h (of k l).inside
-
-    own_entry : entry (column units k) (stratum units k) ≡ pos (get_or layer.request.shape place 0)
-    own_entry = subst (λ (m : Member). entry m.column m.stratum ≡ pos (get_or layer.request.shape place 0)) (sym (is_unit k l)) (own_row strata h (get_or layer.request.shape place 0) (get_or layer.values place []) (of k l).in_h few)
-
-    others : (row : ℕ) → row < strata → row ≢ stratum units k → entry (column units k) row ≡ pos 0
-    others row b =
-        subst (λ (m : Member). row ≢ m.stratum → entry m.column row ≡ pos 0) (sym (is_unit k l)) (λ ne. other_row strata h (get_or layer.request.shape place 0) (get_or layer.values place []) (of k l).in_h few row b ne)
-
-    small : Within (2 ^ 31 - 1) (column units k)
-    small =
-        subst (λ (m : Member). Within (2 ^ 31 - 1) m.column) (sym (is_unit k l))
-        (small_column strata h (get_or layer.request.shape place 0) (get_or layer.values place []) (of k l).in_h few (let z = is_layer.request.small place (of k l).inside in omega (arith, z)) (is_layer.numbers.within place (omega (arith, (of k l).inside, is_layer.one_each, is_layer.request.paired))))
-
-    share_ok : IsShare (first units k) (share units k)
-    share_ok =
-        subst (λ (m : Member). IsShare (get_or (map first_of layers) m.stratum 1) m.share) (sym (is_unit k l))
-        (subst (λ n. IsShare n (lowest (get_or layer.request.shape place 0 * layer.request.r) layer.request.total)) (sym (first_at h (of k l).in_h)) (share_is layer is_layer place (of k l).inside))
-
-    size_is : unsigned_abs (entry (column units k) (stratum units k)) ≡ get_or layer.request.shape place 0
-    size_is = ap unsigned_abs own_entry
-
-    in_proportion : Same (fraction_of (share units k)) (times (over (get_or layers (stratum units k) no_layer).request.r (get_or layers (stratum units k) no_layer).request.total) (whole (unsigned_abs (entry (column units k) (stratum units k)))))
-    in_proportion =
-        rw size_is
-        (subst (λ (m : Member). Same (fraction_of m.share) (times (over (get_or layers m.stratum no_layer).request.r (get_or layers m.stratum no_layer).request.total) (whole (get_or layer.request.shape place 0)))) (sym (is_unit k l))
-        (let below = is_layer.request.below_one place (of k l).inside in
-        same_trans (lowest_same (get_or layer.request.shape place 0 * layer.request.r) layer.request.total (omega (arith, below))) (as_product (get_or layer.request.shape place 0) layer.request.r layer.request.total (omega (arith, below)))))
-
   pub units_are : IsUnits (units_of layers)
   units_are = record {
-    few = (let m = members_few strata 0 layers (λ h l. (let e = each h l in omega (arith, e.request.few, e.request.paired))) in omega (arith, m, are.few));
+    few = (let m = members_few (length layers) 0 layers (λ h l. (let e = each h l in omega (arith, e.request.few, e.request.paired))) in omega (arith, m, are.few));
     few_rows = are.rows;
     strata = omega (arith, length-map layers first_of);
     firsts = λ h. elim (cases_lt h (length layers)) [
@@ -231,14 +194,17 @@ module _ (layers : List Layer) (are : AreLayers layers) (each : (h : ℕ) → h 
           rw (first_at h l) (denominator_positive request is, omega (arith, denominator_narrow request is)))
       | inr past ↦ (let one : get_or (map first_of layers) h 1 ≡ 1 = get_or_past (map first_of layers) h 1 (omega (arith, past, length-map layers first_of)) in rw one (omega arith, omega arith))
     ];
-    within = λ k l. omega (arith, in_stratum k l, (of k l).in_h, length-map layers first_of);
+    within = λ k l. omega (arith, (at k l).within, length-map layers first_of);
     rises = rises;
-    shares = λ k l. share_ok k l;
-    small = λ k l. small k l;
-    size = λ k. unsigned_abs (entry (column units k) (stratum units k));
-    some_size = λ k l. (let z = (is_layer k l).request.positive (of k l).place (of k l).inside in omega (arith, z, size_is k l));
-    own_row = λ k l. own_entry k l ∙ ap pos (sym (size_is k l));
-    other_rows = λ k row l b ne. others k l row (omega (arith, b, length-map layers first_of)) ne;
+    drawn = λ k l. (at k l).drawn;
+    below_one = λ k l. (at k l).below_one;
+    reduced = λ k l. (at k l).reduced;
+    divides = λ k l. (at k l).divides;
+    small = λ k l. (at k l).small;
+    size = λ k. unsigned_abs (entry (get_or members k nobody).column (get_or members k nobody).stratum);
+    some_size = λ k l. (at k l).some;
+    own_row = λ k l. (at k l).own;
+    other_rows = λ k row l b ne. (at k l).others row (omega (arith, b, length-map layers first_of)) ne;
     scale = λ h. over (get_or layers h no_layer).request.r (get_or layers h no_layer).request.total;
-    proportional = λ k l. in_proportion k l;
+    proportional = λ k l. (at k l).proportional;
   }

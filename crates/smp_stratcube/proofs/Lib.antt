@@ -1,7 +1,6 @@
 pub mod Totals
 pub mod OneStep
 pub mod Balances
-pub mod BySteps
 pub mod StratumSums
 pub mod Alone
 pub mod WholeStrata

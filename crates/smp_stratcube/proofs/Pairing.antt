@@ -1,18 +1,17 @@
 -- The first two of a stratum, and the common denominator of a stratum, by the first fractional units.
-use Rattle.std.proofs.Common.{◌≡◌, ◌≢◌, ℕ, zero, suc, ◌+◌, ◌-◌, ◌<◌, ◌≤◌, ◌^◌, nat_eq, false, Option, Some, None, List, [], ◌∷◌, ◌++◌, map, length, get_or, arith, refl, sym, ap, ap₂, ◌∙◌, inl, inr, suc-le-suc, le_of_suc-le-suc, length-take, get_or-take}
+use Rattle.std.proofs.Common.{◌≡◌, ◌≢◌, ℕ, zero, suc, ◌+◌, ◌-◌, ◌<◌, ◌≤◌, ◌^◌, nat_eq, false, Option, Some, None, List, [], ◌∷◌, ◌++◌, map, take, drop, length, get_or, arith, refl, sym, ap, ap₂, ◌∙◌, inl, inr, suc-le-suc, le_of_suc-le-suc, length-take, get_or-take}
 use Rattle.std.specs.List.{filter, range_with_len}
-use Rattle.std.proofs.{lemmas.Bool.{cases_Bool, eq-eqb, ne_eqb, true≢false}, lemmas.List.{append-nil, map-append}, Math.Nat.{le_of_dvd}}
-use Rattle.std.proofs.lemmas.List.Elements.{filter-append}
+use Rattle.std.proofs.{lemmas.Bool.{cases_Bool, eq-eqb, ne_eqb, true≢false}, lemmas.List.{append-nil, map-append, take-append-drop, take-take, take_more}, Math.Nat.{le_of_dvd}}
+use Rattle.std.proofs.lemmas.{List.Elements.{filter-append}, List.Sums.{fold-append}}
 use Rattle.smp_prob.specs.Given.{least_multiple}
 use Rattle.smp_moves.specs.{Steps.{common_multiple}, declared.lines.Ratio.{Ratio}}
-use Rattle.smp_moves.proofs.{Places.{length-rest, rest_at, rest_of}, Filtered.{filter_none, rest_in, rest_out}}
+use Rattle.smp_moves.proofs.{Places.{length-rest, rest_at, rest_of}, Filtered.{filter_none}}
 use Rattle.smp_stratcube.specs.{declared.fronts.Front.{Front}, declared.values.Value.{Value}, Units.{Units, IsUnits, share, stratum}}
 use Rattle.smp_stratcube.specs.{Values.{fractional_units, stratum_common, value}, Pairs.{first_pair}, States.{IsPairing}}
 use Rattle.smp_stratcube.specs.{Kept.Behind.{IsBehind, dens_behind}, Kept.Fronts.{IsFront, front_units, units_on}, Laws.Units.{filter_from}}
 use Rattle.smp_stratcube.specs.Kept.Pairs.{HasStratum, common_in, dens_in}
 use Rattle.smp_moves.proofs.Multiples.{AllSome, from, from_some, from_start, multiple_some, some_map}
-use Rattle.smp_stratcube.proofs.{Ahead.{front_before, front_inside, in_front, order_rises, unit_on, units_none}, Behinds.{from_multiple}}
-use Rattle.smp_stratcube.proofs.Gated.{from_append}
+use Rattle.smp_stratcube.proofs.{Ahead.{front_before, in_front, order_rises, unit_on, units_none}, Behinds.{from_multiple}}
 
 -- ---- the first two neighbours of one stratum
 
@@ -77,7 +76,7 @@ module _ (units : Units) (are : IsUnits units) (values : List Value) (count : le
   rises_at : (j : ℕ) → suc j < front.number → stratum units (get_or front.units j 0) ≤ stratum units (get_or front.units (suc j) 0)
   rises_at j l =
       let a = rising j (suc j) (omega arith) l in
-      let b = front_inside values front is long (suc j) l in
+      let b = is.inside (suc j) l in
       are.rises (get_or front.units j 0) (get_or front.units (suc j) 0) (omega (arith, a)) (omega (arith, b, count))
 
   -- so each is of a stratum at least as far on as it stands in the array
@@ -102,7 +101,7 @@ module _ (units : Units) (are : IsUnits units) (values : List Value) (count : le
             | inr all ↦
                 ap (first_pair units) (sym (append-nil (front_units front)) ∙ ap (λ us. front_units front ++ us) (sym (units_none front.place (length values) (omega (arith, all)))) ∙ is.all)
             | inl enough ↦ absurd (let far = spread e 16 (omega (arith, enough)) in
-                let inside = front_inside values front is long 16 (omega (arith, enough)) in
+                let inside = is.inside 16 (omega (arith, enough)) in
                 let within = are.within (get_or front.units 16 0) (omega (arith, inside, count)) in
                 omega (arith, far, within, are.strata, are.few_rows))
           ]
@@ -128,29 +127,39 @@ module _ (units : Units) (values : List Value) (ok : IsPairing units values) (fr
   pub dens_some : (ks : List ℕ) → AllSome (dens ks)
   dens_some ks = some_map (λ k. (value values k).at.den) (filter (λ k. nat_eq (stratum units k) h) ks) (λ k. (ok.values.each k).positive)
 
-  -- at a place of the front: its unit is of the stratum, or it isn't
-  pub dens_here : (m j : ℕ) → j < front.number → stratum units (get_or front.units j 0) ≡ h →
-      from m (dens_in units values h (rest_of front.number front.units j)) ≡ from (least_multiple m (value values (get_or front.units j 0)).at.den) (dens_in units values h (rest_of front.number front.units (j + 1)))
-  dens_here m j l e =
-      ap (λ ks. from m (map (λ k. (value values k).at.den) ks))
-      (rest_in (λ k. nat_eq (stratum units k) h) front.number front.units j l (omega (arith, l, long)) (eq-eqb (stratum units (get_or front.units j 0)) h e))
+  pub common_some : (ks : List ℕ) → 1 ≤ common_in units values h ks
+  common_some ks = multiple_some (dens ks) (dens_some ks)
 
-  pub dens_past : (m j : ℕ) → j < front.number → stratum units (get_or front.units j 0) ≢ h → from m (dens_in units values h (rest_of front.number front.units j)) ≡ from m (dens_in units values h (rest_of front.number front.units (j + 1)))
-  dens_past m j l away =
-      ap (λ ks. from m (map (λ k. (value values k).at.den) ks))
-      (rest_out (λ k. nat_eq (stratum units k) h) front.number front.units j l (omega (arith, l, long)) (ne_eqb (stratum units (get_or front.units j 0)) h away))
+  -- that of some units, and of others
+  common_both : (ks ls : List ℕ) → common_in units values h (ks ++ ls) ≡ from (common_in units values h ks) (dens_in units values h ls)
+  common_both ks ls =
+      ap (λ us. common_multiple (map (λ k. (value values k).at.den) us)) (filter-append (λ k. nat_eq (stratum units k) h) ks ls)
+      ∙ ap common_multiple (map-append (λ k. (value values k).at.den) (filter (λ k. nat_eq (stratum units k) h) ks) (filter (λ k. nat_eq (stratum units k) h) ls))
+      ∙ fold-append least_multiple 1 (dens ks) (dens ls)
 
-  pub front_some : 1 ≤ common_in units values h (front_units front)
-  front_some = multiple_some (dens (front_units front)) (dens_some (front_units front))
+  -- with a unit more of the front: it is of the stratum, or it isn't
+  common_more : (j : ℕ) → j < front.number → common_in units values h (take (j + 1) front.units) ≡ from (common_in units values h (take j front.units)) (dens_in units values h (get_or front.units j 0 ∷ []))
+  common_more j l = ap (common_in units values h) (take_more front.units j 0 (omega (arith, l, long))) ∙ common_both (take j front.units) (get_or front.units j 0 ∷ [])
+
+  pub common_here : (j : ℕ) → j < front.number → stratum units (get_or front.units j 0) ≡ h →
+      common_in units values h (take (j + 1) front.units) ≡ least_multiple (common_in units values h (take j front.units)) (value values (get_or front.units j 0)).at.den
+  common_here j l e = common_more j l ∙ (rw (eq-eqb (stratum units (get_or front.units j 0)) h e) refl)
+
+  pub common_past : (j : ℕ) → j < front.number → stratum units (get_or front.units j 0) ≢ h → common_in units values h (take (j + 1) front.units) ≡ common_in units values h (take j front.units)
+  common_past j l away = common_more j l ∙ (rw (ne_eqb (stratum units (get_or front.units j 0)) h away) refl)
 
   pub in_two : stratum_common units values h ≡ from (common_in units values h (front_units front)) (dens_in units values h (units_on front.place (length values)))
-  in_two =
-      ap (λ ks. from 1 (dens ks)) (sym is.all)
-      ∙ ap (from 1) (ap (map (λ k. (value values k).at.den)) (filter-append (λ k. nat_eq (stratum units k) h) (front_units front) on) ∙ map-append (λ k. (value values k).at.den) (filter (λ k. nat_eq (stratum units k) h) (front_units front)) (filter (λ k. nat_eq (stratum units k) h) on))
-      ∙ from_append 1 (dens (front_units front)) (dens on)
+  in_two = ap (common_in units values h) (sym is.all) ∙ common_both (front_units front) on
 
-  pub front_narrow : common_in units values h (front_units front) ≤ 2 ^ 80
-  front_narrow = omega (arith, most_of (common_in units values h (front_units front)) (dens on) front_some (dens_some on), in_two, ok.narrow h)
+  -- that of the first units of the front is at most that of the stratum
+  pub common_most : (j : ℕ) → j ≤ front.number → common_in units values h (take j front.units) ≤ 2 ^ 80
+  common_most j l =
+      let rest : List ℕ = drop j (front_units front) in
+      let whole : take j front.units ++ rest ≡ front_units front = ap (λ ks. ks ++ rest) (sym (take-take j front.number front.units l)) ∙ take-append-drop j (front_units front) in
+      let within : common_in units values h (front_units front) ≡ from (common_in units values h (take j front.units)) (dens rest) = ap (common_in units values h) (sym whole) ∙ common_both (take j front.units) rest in
+      let a = most_of (common_in units values h (take j front.units)) (dens rest) (common_some (take j front.units)) (dens_some rest) in
+      let b = most_of (common_in units values h (front_units front)) (dens on) (common_some (front_units front)) (dens_some on) in
+      omega (arith, a, b, within, in_two, ok.narrow h)
 
   -- where no unit from the place on is of the stratum
   pub none_on : ((k : ℕ) → front.place ≤ k → k < length values → stratum units k ≢ h) → stratum_common units values h ≡ common_in units values h (front_units front)
@@ -163,7 +172,7 @@ module _ (units : Units) (values : List Value) (ok : IsPairing units values) (fr
   pub some_on : front.place < length values → stratum units front.place ≡ h → (b : ℕ) → IsBehind units.members front.place b → stratum_common units values h ≡ least_multiple (common_in units values h (front_units front)) b
   some_on l e b behind =
       in_two
-      ∙ from_multiple (common_in units values h (front_units front)) (dens on) front_some (dens_some on)
+      ∙ from_multiple (common_in units values h (front_units front)) (dens on) (common_some (front_units front)) (dens_some on)
       ∙ ap (λ ns. least_multiple (common_in units values h (front_units front)) (common_multiple ns)) same_dens
       ∙ ap (least_multiple (common_in units values h (front_units front))) (ap (λ x. common_multiple (dens_behind units.members x front.place)) (sym e) ∙ sym behind)
     where

@@ -22,8 +22,7 @@ strat_means units are = has_means (method_of units) (started units) (started_fly
 module _ (units : Units) (are : IsUnits units) where
   opened : (k : ℕ) → k < length units.members → is_fractional (values_in (started units)) k ≡ true
   opened k l =
-      let s = are.shares k l in
-      subst (λ (v : Value). fractional v.at.den v.at.num ≡ true) (sym (first_at units are k)) (is_fractional-between (share units k).den (share units k).num s.some s.below)
+      subst (λ (v : Value). fractional v.at.den v.at.num ≡ true) (sym (first_at units are k)) (is_fractional-between (share units k).den (share units k).num (are.drawn k l) (are.below_one k l))
 
   -- before any unit was looked at
   pub start_ahead : (front : Front) → front.number ≡ 0 → front.place ≡ 0 → IsAhead (values_in (started units)) front

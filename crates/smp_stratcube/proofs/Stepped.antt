@@ -1,25 +1,24 @@
 -- The step that the first fractional units lead to is that of the state.
-use Rattle.std.proofs.Common.{◌≡◌, ℕ, ◌+◌, ◌<◌, ◌≤◌, ◌^◌, ◌*◌, ◌&&◌, ◌++◌, nat_le, Bool, true, false, Some, None, mul-pos, ℤ, pos, List, take, length, get_or, arith, refl, sym, ap, ap₂, ◌∙◌, subst, inl, inr, length-take, get_or-take, []}
+use Rattle.std.proofs.Common.{◌≡◌, ℕ, ◌+◌, ◌<◌, ◌≤◌, ◌^◌, ◌*◌, ◌++◌, nat_le, Bool, true, false, Some, None, mul-pos, ℤ, pos, List, take, length, get_or, arith, refl, sym, ap, ap₂, ◌∙◌, subst, inl, inr, length-take, get_or-take, []}
 use Rattle.std.specs.Int.RustNames.{unsigned_abs}
-use Rattle.std.proofs.lemmas.Bool.{and_from, and_parts, cases_Bool, le-leb, true≢false}
-use Rattle.std.proofs.lemmas.List.{append-nil, length-map, take-append-le, take-map, take-take}
-use Rattle.smp_kernel.specs.{Vectors.{entry, IsZero, Within}, RowReduction.{cut}, Searches.{Search, found, IsSearch}}
+use Rattle.std.proofs.{lemmas.Bool.{cases_Bool, le-leb}, lemmas.List.{append-nil, length-map, take-append-le, take-map, take-take}}
+use Rattle.smp_kernel.specs.{Vectors.{entry, IsZero}, RowReduction.{cut}, Searches.{Search, found, IsSearch}}
 use Rattle.smp_kernel.proofs.{SearchLaw.{few_enter, first_decide, one_answer}, FoundCircuits.{circuit_length, cut_circuit_short}}
 use Rattle.smp_moves.specs.{Kept.Searches.{search, search_is}, Moves.{IsLine, Line, entry_at, entry_of, move, turned, wide}}
-use Rattle.smp_moves.specs.{Ends.{end_of, entries_fit, lowest, reach, weights}, declared.lines.Ratio.{Ratio}, Answers.{IsPadded, line_of}}
+use Rattle.smp_moves.specs.{Ends.{lowest, reach, weights}, declared.lines.Ratio.{Ratio}, Answers.{IsPadded, line_of}}
 use Prim.Native.Nat.{◌∣◌}
 use Rattle.smp_kernel.proofs.Existence.{cut_short}
 use Rattle.smp_moves.specs.{declared.lines.Line.{Line as LineOfPlaces}, declared.reaches.Reach.{Reach}, Kept.Ends.{HasSmallEntries}}
-use Rattle.smp_moves.proofs.{Entries.{entry_at_none, place_or}, FirstPlaces.{front_small}, Computed.{prefix_length, some_scaled}}
+use Rattle.smp_moves.proofs.{Entries.{entry_at_none, place_or}, Computed.{next_answered, places_prefix, places_small, places_some, places_wide, prefix_length}}
 use Rattle.smp_stratcube.specs.{declared.fronts.Front.{Front}, declared.values.Value.{Value}, States.{Flight, IsFlying}, Moves.{setting_of}}
-use Rattle.smp_stratcube.specs.{Units.{Units, IsUnits, column, columns_of, share}, Kept.Computed.{moved_values, moves, next}}
-use Rattle.smp_stratcube.specs.{Values.{common_of, fractional_units, over_common, taken_over, value}, Kept.Gates.{held}}
-use Rattle.smp_stratcube.specs.{Kept.Fronts.{IsFront, front_units, units_on}, Kept.Lines.{IsLineOf, direction_fits, HasDirection}}
+use Rattle.smp_stratcube.specs.{Units.{Units, IsUnits, column, columns_of, share}, Kept.Computed.{moved_values, next, values_along}}
+use Rattle.smp_stratcube.specs.{Values.{common_of, fractional_units, over_common, value}, Kept.Gates.{held}}
+use Rattle.smp_stratcube.specs.{Kept.Fronts.{IsFront, front_units, units_on}, Kept.Lines.{HasDirection}}
 use Rattle.smp_stratcube.specs.Kept.Moves.{IsAlong, IsMoveOf, end_gathered}
 use Rattle.smp_stratcube.specs.Laws.Nexts.{den_divides, den_some, line_ok, prefix_in, some_shares}
 use Rattle.smp_stratcube.proofs.{Directed.{held_none, held_some}, Ending.{end_held, inside, some_left, some_size}, Written.{turn_along}}
 use Rattle.smp_stratcube.proofs.Ahead.{front_before, units_none}
-use Rattle.smp_moves.specs.{Steps.{Finds, scale_of, scaled}, Kept.Computed.{direction, fits, next_along, next_of}}
+use Rattle.smp_moves.specs.{Steps.{Finds, scale_of, scaled}, Kept.Computed.{IsLineOf, direction, direction_fits, next_along, next_of, next_through}}
 
 -- ---- the first units decide
 
@@ -58,11 +57,6 @@ module _ (units : Units) (f : Flight) (front : Front) (is : IsFront f.values fro
 
 -- ---- the step by its search
 
-pub next_found : (units : Units) (f : Flight) (a : Search) → Finds (setting_of units) f (fractional_units f.values) a → next units f ≡ next_of (setting_of units) (moved_values units) f.values (fractional_units f.values) a
-next_found units f a h =
-    let cs : List (List ℤ) = columns_of units (fractional_units f.values) in
-    ap (next_of (setting_of units) (moved_values units) f.values (fractional_units f.values)) (one_answer f.rows (cut f.rows cs) (search f.rows cs) a (search_is f.rows cs) h)
-
 module _ (units : Units) (f : Flight) (w : List ℤ) (finds : Finds (setting_of units) f (fractional_units f.values) (found w)) where
   abbrev line : Line
   line = direction (share units) (fractional_units f.values) w
@@ -76,46 +70,22 @@ module _ (units : Units) (f : Flight) (w : List ℤ) (finds : Finds (setting_of 
   abbrev minus : Bool
   minus = nat_le (common_of units (moved_values units f.values (turned line)) []) (2 ^ 80)
 
-  abbrev prefix : List ℕ
-  prefix = take (length w) (fractional_units f.values)
+  by_found : next units f ≡ next_through (setting_of units) (moved_values units) f.values (take (length w) (fractional_units f.values)) w
+  by_found = next_answered (setting_of units) (moved_values units) f (fractional_units f.values) (found w) finds
 
-  pub fits_then : direction_fits units prefix w ≡ true → narrow ≡ true → plus ≡ true → minus ≡ true → next units f ≡ move (next_along (setting_of units) f.values (direction (share units) (fractional_units f.values) w))
-  fits_then d n p m =
-      let parts = and_parts (nat_le (scale_of (share units) prefix w) (2 ^ 80)) (entries_fit line) d in
-      let all : fits (setting_of units) (moved_values units) f.values (fractional_units f.values) w ≡ true =
-      and_from (nat_le (scale_of (share units) prefix w) (2 ^ 80)) (entries_fit line && (narrow && (plus && minus))) parts.0
-      (and_from (entries_fit line) (narrow && (plus && minus)) parts.1 (and_from narrow (plus && minus) n (and_from plus minus p m))) in
-      next_found units f (found w) finds ∙ (rw all refl)
+  module _ (d : direction_fits (share units) (take (length w) (fractional_units f.values)) w ≡ true) where
+    pub wide_line : narrow ≡ false → next units f ≡ wide
+    wide_line n = by_found ∙ (rw (d, n) refl)
 
-  unfit : fits (setting_of units) (moved_values units) f.values (fractional_units f.values) w ≡ false → next units f ≡ wide
-  unfit h = next_found units f (found w) finds ∙ (rw h refl)
+    module _ (n : narrow ≡ true) where
+      pub wide_plus : plus ≡ false → next units f ≡ wide
+      wide_plus p = by_found ∙ (rw (d, n, p) refl)
 
-  all_of : fits (setting_of units) (moved_values units) f.values (fractional_units f.values) w ≡ true → (direction_fits units prefix w ≡ true) × (narrow ≡ true) × (plus ≡ true) × (minus ≡ true)
-  all_of h =
-      let a = and_parts (nat_le (scale_of (share units) prefix w) (2 ^ 80)) (entries_fit line && (narrow && (plus && minus))) h in
-      let b = and_parts (entries_fit line) (narrow && (plus && minus)) a.1 in
-      let c = and_parts narrow (plus && minus) b.1 in
-      let d = and_parts plus minus c.1 in
-      (and_from (nat_le (scale_of (share units) prefix w) (2 ^ 80)) (entries_fit line) a.0 b.0, c.0, d.0, d.1)
+      pub wide_minus : minus ≡ false → next units f ≡ wide
+      wide_minus m = elim (cases_Bool plus) [ inl p ↦ by_found ∙ (rw (d, n, p, m) refl) | inr p ↦ wide_plus p ]
 
-  not_all : ((fits (setting_of units) (moved_values units) f.values (fractional_units f.values) w ≡ true) → ⊥) → next units f ≡ wide
-  not_all h =
-      elim (cases_Bool (fits (setting_of units) (moved_values units) f.values (fractional_units f.values) w)) [
-        | inl t ↦ absurd (h t)
-        | inr n ↦ unfit n
-      ]
-
-  pub wide_direction : direction_fits units prefix w ≡ false → next units f ≡ wide
-  wide_direction n = not_all (λ t. true≢false (sym (all_of t).0 ∙ n))
-
-  pub wide_line : narrow ≡ false → next units f ≡ wide
-  wide_line n = not_all (λ t. true≢false (sym (all_of t).1 ∙ n))
-
-  pub wide_plus : plus ≡ false → next units f ≡ wide
-  wide_plus n = not_all (λ t. true≢false (sym (all_of t).2 ∙ n))
-
-  pub wide_minus : minus ≡ false → next units f ≡ wide
-  wide_minus n = not_all (λ t. true≢false (sym (all_of t).3 ∙ n))
+      pub fits_then : plus ≡ true → minus ≡ true → next units f ≡ move (next_along (setting_of units) f.values (direction (share units) (fractional_units f.values) w))
+      fits_then p m = by_found ∙ (rw (d, n, p, m) refl)
 
 -- a circuit goes through at most one unit more than there are rows in force
 circuit_few : (units : Units) (f : Flight) (w : List ℤ) → Finds (setting_of units) f (fractional_units f.values) (found w) → length w ≤ f.rows + 1
@@ -154,12 +124,12 @@ module _ (units : Units) (f : Flight) (ok : IsFlying units f) (front : Front) (i
 
 module _ (units : Units) (f : Flight) (ok : IsFlying units f) (line : LineOfPlaces) (h : HasDirection units f line) where
   pub line_is : line_of line ≡ direction (share units) (fractional_units f.values) h.circuit
-  line_is = h.is_line.is
+  line_is = h.is_line.holds.is
 
   pub line_inside : (j : ℕ) → j < line.number → get_or line.units j 0 < length units.members
   line_inside j l =
       let us : take line.number line.units ≡ take (length h.circuit) (fractional_units f.values) = ap (λ (x : Line). x.units) line_is in
-      let count : j < length (take line.number line.units) = omega (arith, l, h.is_line.padded.places, length-take line.number line.units) in
+      let count : j < length (take line.number line.units) = omega (arith, l, h.is_line.holds.padded.places, length-take line.number line.units) in
       let there : j < length (take (length h.circuit) (fractional_units f.values)) = subst (λ (ks : List ℕ). j < length ks) us count in
       subst (λ (k : ℕ). k < length units.members) (sym (ap (λ (ks : List ℕ). get_or ks j 0) us) ∙ get_or-take line.number line.units j 0 l) (prefix_in units f ok h.circuit h.finds j there)
 
@@ -187,8 +157,8 @@ module _ (units : Units) (f : Flight) (ok : IsFlying units f) (line : LineOfPlac
       some = den_positive;
       narrow = narrow;
       is_line = goes_through;
-      padded = h.is_line.padded;
-      small = h.is_line.small;
+      padded = h.is_line.holds.padded;
+      small = h.is_line.holds.small;
       is_reach = e;
       divides = divides_at;
     }
@@ -208,7 +178,8 @@ pub end_there : (units : Units) (are : IsUnits units) (values : List Value) (fro
     end_gathered units values front (line_of l) den r ≡ nat_le (common_of units (moved_values units values target) []) (2 ^ 80)
 end_there units are values front is long l den r a off target same den_is =
     end_held units are values front l den r a is long off
-    ∙ ap₂ (λ (m : ℕ) (x : Line). nat_le (common_of units (taken_over (moves x) values (end_of 1 (over_common m values) x)) []) (2 ^ 80)) den_is same
+    ∙ ap (λ (x : Reach). nat_le (common_of units (values_along values (line_of l) den x) []) (2 ^ 80)) a.is_reach
+    ∙ ap₂ (λ (m : ℕ) (x : Line). nat_le (common_of units (values_along values x m (reach (over_common m values) x)) []) (2 ^ 80)) den_is same
 
 pub weights_is : (units : Units) (values : List Value) (l : Line) (den : ℕ) (up down : Reach) (x : Ratio) → den ≡ common_of units values l.units → up ≡ reach (over_common den values) l → down ≡ reach (over_common den values) (turned l) →
     x ≡ lowest (down.left * up.size) (up.left * down.size) → x ≡ weights (reach (over_common (common_of units values l.units) values) l) (reach (over_common (common_of units values l.units) values) (turned l))
@@ -226,7 +197,7 @@ module _ (units : Units) (f : Flight) (ok : IsFlying units f) (front : Front) (i
 
   pub no_denominator : None ≡ held (common_of units f.values (line_of line).units) → next units f ≡ wide
   no_denominator e =
-      wide_line units f h.circuit h.finds (ap (λ (x : Line). nat_le (common_of units f.values x.units) (2 ^ 80)) (sym (line_is units f ok line h)) ∙ held_none (common_of units f.values (line_of line).units) e)
+      wide_line units f h.circuit h.finds h.is_line.fits (ap (λ (x : Line). nat_le (common_of units f.values x.units) (2 ^ 80)) (sym (line_is units f ok line h)) ∙ held_none (common_of units f.values (line_of line).units) e)
 
   module _ (den : ℕ) (e : Some den ≡ held (common_of units f.values (line_of line).units)) where
     pub den_is : den ≡ common_of units f.values (line_of line).units
@@ -247,7 +218,7 @@ module _ (units : Units) (f : Flight) (ok : IsFlying units f) (front : Front) (i
         (den_is ∙ ap (λ (x : Line). common_of units f.values x.units) (line_is units f ok line h))
 
     pub no_plus : (r : Reach) → r ≡ reach (over_common den f.values) (line_of line) → end_gathered units f.values front (line_of line) den r ≡ false → next units f ≡ wide
-    no_plus r u n = wide_plus units f h.circuit h.finds (sym (plus_is r u) ∙ n)
+    no_plus r u n = wide_plus units f h.circuit h.finds h.is_line.fits narrow_there (sym (plus_is r u) ∙ n)
 
     module _ (back : LineOfPlaces) (turns : line_of back ≡ turned (line_of line)) (padded : IsPadded back) (small : HasSmallEntries back) where
       pub backward : (r : Reach) → r ≡ reach (over_common den f.values) (line_of back) → IsAlong (length units.members) f.values back den r
@@ -262,7 +233,7 @@ module _ (units : Units) (f : Flight) (ok : IsFlying units f) (front : Front) (i
           (den_is ∙ ap (λ (x : Line). common_of units f.values x.units) (line_is units f ok line h))
 
       pub no_minus : (r : Reach) → r ≡ reach (over_common den f.values) (line_of back) → end_gathered units f.values front (line_of back) den r ≡ false → next units f ≡ wide
-      no_minus r d n = wide_minus units f h.circuit h.finds (sym (minus_is r d) ∙ n)
+      no_minus r d n = wide_minus units f h.circuit h.finds h.is_line.fits narrow_there (sym (minus_is r d) ∙ n)
 
       module _ (up down : Reach) (u : up ≡ reach (over_common den f.values) (line_of line)) (d : down ≡ reach (over_common den f.values) (line_of back)) where
         pub reaches_some : 1 ≤ up.left * down.size
@@ -290,31 +261,32 @@ module _ (units : Units) (f : Flight) (ok : IsFlying units f) (front : Front) (i
   few = omega (arith, ok.rows_in, ok.are.few_rows)
 
   pub step_found : (a : Search) → IsSearch f.rows (cut f.rows (columns_of units (front_units front))) a → next units f ≡ next_of (setting_of units) (moved_values units) f.values (fractional_units f.values) a
-  step_found a h = next_found units f a (front_search units f front is long few a h)
+  step_found a h = next_answered (setting_of units) (moved_values units) f (fractional_units f.values) a (front_search units f front is long few a h)
 
   -- a circuit in the first places of an array
   module _ (w : List ℤ) (n : ℕ) (lw : n ≤ length w) (past : (i : ℕ) → n ≤ i → entry w i ≡ pos 0) (h : IsSearch f.rows (cut f.rows (columns_of units (front_units front))) (found (take n w))) where
-    count : length (take n w) ≡ n
-    count = omega (arith, lw, length-take n w)
-
     finds : Finds (setting_of units) f (fractional_units f.values) (found (take n w))
     finds = front_search units f front is long few (found (take n w)) h
 
     pub found_fewer : n ≤ front.number
-    found_fewer = omega (arith, count, front_circuit units f front is long few (take n w) h)
+    found_fewer = omega (arith, lw, length-take n w, front_circuit units f front is long few (take n w) h)
+
+    same : take n (fractional_units f.values) ≡ take n front.units
+    same = same_first units f front is long few n found_fewer ∙ take-take n front.number front.units found_fewer
 
     pub found_small : (j : ℕ) → unsigned_abs (entry w j) ≤ 2 ^ 44
-    found_small = front_small w n past lw (subst (Within (2 ^ 44)) (sym finds.is) finds.closes.fits)
-
-    found_prefix : take (length (take n w)) (fractional_units f.values) ≡ take n front.units
-    found_prefix =
-        ap (λ k. take k (fractional_units f.values)) count ∙ same_first units f front is long few n found_fewer ∙ take-take n front.number front.units found_fewer
+    found_small = places_small (setting_of units) (moved_values units) f (fractional_units f.values) front.units w n lw finds same past
 
     pub found_some : IsZero (scaled (share units) (scale_of (share units) (take n front.units) (take n w)) (take n front.units) (take n w)) → ⊥
-    found_some z = some_scaled (setting_of units) f (fractional_units f.values) (take n w) finds (some_shares units f ok) (subst (λ ks. IsZero (scaled (share units) (scale_of (share units) ks (take n w)) ks (take n w))) (sym found_prefix) z)
+    found_some = places_some (setting_of units) (moved_values units) f (fractional_units f.values) front.units w n lw finds same (some_shares units f ok)
 
-    pub found_wide : direction_fits units (take n front.units) (take n w) ≡ false → next units f ≡ wide
-    found_wide e = wide_direction units f (take n w) finds (subst (λ ks. direction_fits units ks (take n w) ≡ false) (sym found_prefix) e)
+    pub found_wide : direction_fits (share units) (take n front.units) (take n w) ≡ false → next units f ≡ wide
+    found_wide = places_wide (setting_of units) (moved_values units) f (fractional_units f.values) front.units w n lw finds same
 
-    pub found_line : (line : LineOfPlaces) → IsLineOf units (take n front.units) (take n w) line → HasDirection units f line
-    found_line line l = record { circuit = take n w; finds = finds; is_line = subst (λ ks. IsLineOf units ks (take n w) line) (sym found_prefix) l }
+    pub found_line : (line : LineOfPlaces) → IsLineOf (share units) (take n front.units) (take n w) line → HasDirection units f line
+    found_line line l = record {
+      circuit = take n w;
+      finds = finds;
+      is_line = subst (λ (ks : List ℕ). IsLineOf (share units) ks (take n w) line)
+          (sym (places_prefix (setting_of units) (moved_values units) f (fractional_units f.values) front.units w n lw finds same)) l;
+    }

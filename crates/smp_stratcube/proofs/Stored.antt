@@ -1,9 +1,10 @@
 -- How strata are stored, and the columns of their units.
-use Rattle.std.proofs.Common.{◌≡◌, ◌≢◌, ℕ, zero, suc, ◌+◌, ◌-◌, ◌<◌, ◌≤◌, ℤ, pos, List, [], ◌∷◌, ◌++◌, map, take, drop, set, length, get_or, arith, refl, sym, ap, ap₂, ◌∙◌, subst, inl, inr, append_assoc, length-append, length-set, length-take, get_or-take}
+use Rattle.std.proofs.Common.{◌≡◌, ◌≢◌, ℕ, suc, ◌+◌, ◌-◌, ◌<◌, ◌≤◌, ℤ, pos, List, [], ◌∷◌, ◌++◌, map, take, drop, set, length, get_or, arith, refl, sym, ap, ◌∙◌, subst, inl, inr, append_assoc, length-append, length-set, length-take, get_or-take}
 use Rattle.std.specs.{Prelude.{replicate}, List.{range_with_len}}
-use Rattle.std.proofs.lemmas.Bool.{cases_eq, cases_lt, ne_eqb}
-use Rattle.std.proofs.lemmas.List.{drop_more, ext_get_or, get_or-append_right, get_or-map, get_or-replicate, get_or-set_other, get_or-set_same, get_or_append_left, get_or_past, get_or_read, length-map, length-replicate}
+use Rattle.std.proofs.{lemmas.Bool.{cases_eq, cases_lt, ne_eqb}, lemmas.Grind.{get_or-set_at}}
+use Rattle.std.proofs.lemmas.List.{drop_more, ext_get_or, get_or-append_right, get_or-map, get_or-set_other, get_or_append_left, get_or_push, get_or_read, length-map, length-replicate}
 use Rattle.smp_kernel.specs.Vectors.{entry}
+use Rattle.smp_kernel.proofs.Lists.{zero_entry}
 use Rattle.smp_prob.specs.{declared.requests.Request.{Request}, Requests.{IsRequest}, Shares.{common_denominator}}
 use Rattle.smp_stratcube.specs.{Layers.{AreNumbers, IsLayer, Layer, no_layer, variables}, declared.units.Member.{Member}}
 use Rattle.smp_stratcube.specs.Units.{column_of, member_of, members_from, units_of}
@@ -16,9 +17,7 @@ more_each P xs d x n count before here k l =
       | inl b ↦ subst (P k) (sym (get_or_append_left xs (x ∷ []) d k (omega (arith, b, count)))) (before k b)
       | inr past ↦
           (let e : k ≡ n = omega (arith, l, past) in
-          let none : k - n ≡ 0 = omega arith in
-          let at : get_or (xs ++ x ∷ []) k d ≡ x = get_or-append_right xs (x ∷ []) n k d count past ∙ ap (λ i. get_or (x ∷ []) i d) none in
-          subst (P k) (sym at) (subst (λ (i : ℕ). P i x) (sym e) here))
+          subst (P k) (sym (get_or_push xs x d k (count ∙ sym e))) (subst (λ (i : ℕ). P i x) (sym e) here))
     ]
 
 pub push_each : (layers : List Layer) (layer : Layer) → EachIsLayer layers → IsLayer layer → EachIsLayer (layers ++ layer ∷ [])
@@ -64,13 +63,6 @@ module _ (request : Request) (is : IsRequest request) (xs : List (List ℤ)) (on
 
 -- ---- the column of a unit
 
-zeros_at : (n k : ℕ) → entry (replicate n (pos 0)) k ≡ pos 0
-zeros_at n k =
-    elim (cases_lt k n) [
-      | inl l ↦ get_or-replicate n k (pos 0) (pos 0) l
-      | inr past ↦ get_or_past (replicate n (pos 0)) k (pos 0) (omega (arith, past, length-replicate n (pos 0)))
-    ]
-
 -- with the size alone
 pub record IsFirst (strata stratum size : ℕ) (column : List ℤ) : Type 0 where
   pub long : length column ≡ 16
@@ -81,19 +73,18 @@ pub is_first : (strata stratum size : ℕ) → stratum < strata → strata ≤ 1
 is_first strata stratum size l few = record {
   long = length-set (replicate 16 (pos 0)) stratum (pos size) ∙ length-replicate 16 (pos 0);
   front = front;
-  past = λ k past. get_or-set_other (replicate 16 (pos 0)) stratum k (pos size) (pos 0) (omega (arith, past, l)) ∙ zeros_at 16 k;
+  past = λ k past. get_or-set_other (replicate 16 (pos 0)) stratum k (pos size) (pos 0) (omega (arith, past, l)) ∙ zero_entry 16 k;
 }
   where
     front : (k : ℕ) → k < strata → entry (set (replicate 16 (pos 0)) stratum (pos size)) k ≡ entry (set (replicate strata (pos 0)) stratum (pos size)) k
     front k b =
         elim (cases_eq k stratum) [
           | inl e ↦
-              subst (λ (i : ℕ). entry (set (replicate 16 (pos 0)) stratum (pos size)) i ≡ entry (set (replicate strata (pos 0)) stratum (pos size)) i) (sym e)
-              (get_or-set_same (replicate 16 (pos 0)) stratum (pos size) (pos 0) (omega (arith, l, few, length-replicate 16 (pos 0)))
-              ∙ sym (get_or-set_same (replicate strata (pos 0)) stratum (pos size) (pos 0) (omega (arith, l, length-replicate strata (pos 0)))))
+              get_or-set_at (replicate 16 (pos 0)) stratum k (pos size) (pos 0) e (omega (arith, l, few, length-replicate 16 (pos 0)))
+              ∙ sym (get_or-set_at (replicate strata (pos 0)) stratum k (pos size) (pos 0) e (omega (arith, l, length-replicate strata (pos 0))))
           | inr ne ↦
-              get_or-set_other (replicate 16 (pos 0)) stratum k (pos size) (pos 0) ne ∙ zeros_at 16 k
-              ∙ sym (get_or-set_other (replicate strata (pos 0)) stratum k (pos size) (pos 0) ne ∙ zeros_at strata k)
+              get_or-set_other (replicate 16 (pos 0)) stratum k (pos size) (pos 0) ne ∙ zero_entry 16 k
+              ∙ sym (get_or-set_other (replicate strata (pos 0)) stratum k (pos size) (pos 0) ne ∙ zero_entry strata k)
         ]
 
 module _ (strata stratum size : ℕ) (xs : List ℤ) where
@@ -135,7 +126,7 @@ module _ (strata stratum size : ℕ) (xs : List ℤ) where
           | inl b ↦ ap (entry column) e ∙ rest j b ∙ sym (in_rest k j l e ∙ get_or_append_left xs (replicate 16 (pos 0)) (pos 0) j b)
           | inr far ↦
               past k (omega (arith, far, e))
-              ∙ sym (in_rest k j l e ∙ get_or-append_right xs (replicate 16 (pos 0)) (length xs) j (pos 0) refl far ∙ zeros_at 16 (j - length xs))
+              ∙ sym (in_rest k j l e ∙ get_or-append_right xs (replicate 16 (pos 0)) (length xs) j (pos 0) refl far ∙ zero_entry 16 (j - length xs))
         ]
 
     column_at : (k : ℕ) → k < 16 → entry column k ≡ entry (column_of strata stratum size xs) k
@@ -153,12 +144,6 @@ module _ (strata stratum size : ℕ) (xs : List ℤ) where
 pub here_of : (layers : List Layer) (i : ℕ) (layer : Layer) → i < length layers → layer ≡ get_or layers i layer → drop i layers ≡ layer ∷ drop (i + 1) layers
 here_of layers i layer l e = drop_more layers i no_layer l ∙ ap (λ (x : Layer). x ∷ drop (i + 1) layers) (sym (get_or_read layers i layer l e no_layer))
 
-pub none_left : (layers : List Layer) (i : ℕ) → length layers ≤ i → drop i layers ≡ []
-none_left [] zero l = refl
-none_left [] (suc i) l = refl
-none_left (x ∷ layers) zero l = absurd (omega (arith, l))
-none_left (x ∷ layers) (suc i) l = none_left layers i (omega (arith, l))
-
 pub first_has : (layer : Layer) (layers : List Layer) → 1 ≤ length layer.values → variables (layer ∷ layers) ≡ width layer
 first_has layer layers some = (let ne : length layer.values ≢ 0 = omega (arith, some) in rw (ne_eqb (length layer.values) 0 ne) refl)
 
@@ -175,6 +160,4 @@ members_step strata layers i layer l e =
 -- the units by their parts
 pub units_view : (layers : List Layer) (members : List Member) (firsts : List ℕ) (number many : ℕ) → members ≡ members_from (length layers) 0 layers → firsts ≡ map first_of layers → number ≡ length layers → many ≡ variables layers →
     record { members = members; firsts = firsts; rows = number + many } ≡ units_of layers
-units_view layers members firsts number many members_are firsts_are number_is many_is =
-    ap₂ (λ (both : List Member × List ℕ) (rows : ℕ). record { members = both.0; firsts = both.1; rows = rows })
-    (ap₂ (λ (ms : List Member) (fs : List ℕ). (ms, fs)) members_are firsts_are) (ap₂ (λ a b. a + b) number_is many_is)
+units_view layers members firsts number many members_are firsts_are number_is many_is = rw (members_are, firsts_are, number_is, many_is) refl

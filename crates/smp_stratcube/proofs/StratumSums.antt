@@ -1,10 +1,11 @@
 -- The sum of the values of a stratum.
 use Rattle.std.proofs.Common.{◌≡◌, ◌≢◌, ℕ, zero, suc, ◌+◌, ◌*◌, ◌<◌, ◌≤◌, nat_eq, ◌&&◌, Bool, true, false, cond, List, length, arith, refl, sym, ap, ◌∙◌, subst, inl, inr}
 use Rattle.std.specs.Int.RustNames.{unsigned_abs}
-use Rattle.std.proofs.{Math.Nat.{mul-le-mul_right}, lemmas.Bool.{cases_eq, cases_lt, eq-eqb, false_from_ne_true, lt-ltb, ne_eqb}, lemmas.Int.{ints}}
+use Rattle.std.proofs.{Math.Nat.{mul-le-mul_right}, lemmas.Bool.{cases_eq, cases_lt, eq-eqb, false_from_ne_true, lt-ltb, ne_eqb}}
 use Rattle.smp_frac.specs.Fractions.{Fraction, Same, positive_one, whole, over, plus, times, sum_below}
 use Rattle.smp_frac.proofs.Arithmetic.{same_refl, same_sym, same_trans, plus_same, plus_assoc, plus_cancel, plus_left_comm, plus-zero, zero-plus, times_same, one-times, zero-times, sum_same}
 use Rattle.smp_frac.proofs.Over.{cross_from_over, over_from_cross, over_plus}
+use Rattle.smp_split.specs.Laws.Parts.{plus-whole}
 use Rattle.smp_split.proofs.NumberSums.{sums, sum_by-range}
 use Rattle.smp_values.proofs.Fractional.{fractional_is, not_fractional, over_settled}
 use Rattle.smp_moves.specs.{Owed.{weighed_total}, Cubes.{values_in}}
@@ -53,10 +54,7 @@ sum_pair n i j f g li lj apart others both =
 -- a sum of whole numbers
 pub whole_sum : (n : ℕ) (g : ℕ → ℕ) → Same (sum_below n (λ k. whole (g k))) (whole (sums n g))
 whole_sum zero g = same_refl (whole 0)
-whole_sum (suc n) g = same_trans (plus_same (whole_sum n g) (same_refl (whole (g n)))) (whole_plus (sums n g) (g n))
-  where
-    whole_plus : (a b : ℕ) → Same (plus (whole a) (whole b)) (whole (a + b))
-    whole_plus a b = record { cross = omega (arith, ints) }
+whole_sum (suc n) g = same_trans (plus_same (whole_sum n g) (same_refl (whole (g n)))) (plus-whole (sums n g) (g n))
 
 pub whole_same : (a b : ℕ) → Same (whole a) (whole b) → a ≡ b
 whole_same a b h = (let c : a * 1 ≡ b * 1 = ap unsigned_abs h.cross in omega (arith, c))

@@ -1,10 +1,10 @@
 -- A move keeps the total of each row in force: the size of a stratum, or the total of a variable over all strata.
-use Rattle.std.proofs.Common.{◌≡◌, ℕ, suc, ◌+◌, ◌*◌, ◌/◌, ◌<◌, ◌≤◌, nat_lt, cond, Bool, ℤ, pos, negsuc, neg_ℤ, ◌*ℤ◌, List, [], map, take, length, get_or, arith, sym, ap, ◌∙◌, subst, inl, inr}
+use Rattle.std.proofs.Common.{◌≡◌, ℕ, suc, ◌+◌, ◌*◌, ◌/◌, ◌<◌, ◌≤◌, nat_lt, cond, Bool, ℤ, pos, negsuc, neg_ℤ, ◌*ℤ◌, List, map, take, length, get_or, arith, sym, ap, ◌∙◌, subst, inl, inr}
 use Rattle.std.specs.Int.RustNames.{unsigned_abs}
 use Rattle.std.proofs.{lemmas.Bool.{cases_Bool, cases_eq, eq-eqb, ltb-true, ne_eqb}, lemmas.Int.{ints}, lemmas.List.{take-map}, lemmas.Simd.{map-map}}
 use Rattle.std.proofs.Math.Nat.{mul-div_cancel'}
 use Prim.Native.Nat.{◌∣◌}
-use lib.IntN.{*ℤ_comm}
+use lib.IntN.{*ℤ-zero}
 use Rattle.smp_frac.specs.Fractions.{Fraction, Same, whole, integer, times, over, sum_below}
 use Rattle.smp_frac.proofs.Arithmetic.{same_sym, same_trans, times-zero, zero-times}
 use Rattle.smp_frac.proofs.{Integers.{diff, diff-neg, same-diff, by_diff, diffs, pos-diff}, Signs.{neg-diff}}
@@ -50,10 +50,7 @@ module _ (D L fn fd : ℕ) (pD : 1 ≤ D) (pf : 1 ≤ fd) where
 -- ---- a row
 
 other_row : (E B : Fraction) (w : ℤ) → Same (times (whole 0) E) (times B (integer (w *ℤ pos 0)))
-other_row E B w = same_trans (zero-times E) (same_sym (subst (λ (z : ℤ). Same (times B (integer z)) (whole 0)) (sym (*ℤ_comm w (pos 0) ∙ zero_first w)) (times-zero B)))
-  where
-    zero_first : (w : ℤ) → pos 0 *ℤ w ≡ pos 0
-    zero_first w = omega (arith, ints)
+other_row E B w = same_trans (zero-times E) (same_sym (subst (λ (z : ℤ). Same (times B (integer z)) (whole 0)) (sym (*ℤ-zero w)) (times-zero B)))
 
 -- ---- the total of a direction is 0
 
@@ -86,15 +83,15 @@ module _ (units : Units) (f : Flight) (ok : IsFlying units f) (w : List ℤ) (fi
   entry_is : (j : ℕ) → j < length line.units → Same (integer (entry line.entries j)) (times A (times (fraction_of (share units (get_or line.units j 0))) (integer (entry w j))))
   entry_is j l =
       let k : ℕ = get_or line.units j 0 in
-      let s = ok.are.shares k (prefix_in units f ok w finds j l) in
+      let below = ok.are.below_one k (prefix_in units f ok w finds j l) in
       let m : j < length w = omega (arith, l, prefix_length (setting_of units) f (fractional_units f.values) w finds) in
-      let low = lowest_is ((share units k).num * unsigned_abs (entry w j)) (share units k).den (omega (arith, s.below)) in
+      let low = lowest_is ((share units k).num * unsigned_abs (entry w j)) (share units k).den (omega (arith, below)) in
       let p : Ratio = product (share units k) (entry w j) in
       let d : p.den ∣ L = scale_divides (share units) prefix w (front_some (setting_of units) f (fractional_units f.values) w finds (some_shares units f ok)) j l m in
       let num : p.num * (L / p.den) * (share units k).den ≡ (share units k).num * unsigned_abs (entry w j) * L = number_is (share units k).num (share units k).den (unsigned_abs (entry w j)) p.num p.den L d low.same in
       let prod : pos D *ℤ entry line.entries j ≡ signed (entry w j) (p.num * (L / p.den)) =
       ap (λ (z : ℤ). z *ℤ entry line.entries j) (sym (as_positive is.entries.divisor is.entries.positive)) ∙ is.entries.product j ∙ entry-scaled (share units) L prefix w j l m in
-      entry_in_proportion D L (share units k).num (share units k).den some_D (omega (arith, s.below)) (entry line.entries j) (entry w j) (p.num * (L / p.den)) prod num
+      entry_in_proportion D L (share units k).num (share units k).den some_D (omega (arith, below)) (entry line.entries j) (entry w j) (p.num * (L / p.den)) prod num
 
   factor : ℕ → Fraction
   factor row = cond (nat_lt row (length units.firsts)) (times (over L D) (ok.are.scale row)) (over L D)
@@ -105,9 +102,8 @@ module _ (units : Units) (f : Flight) (ok : IsFlying units f) (w : List ℤ) (fi
   in_proportion row j l =
       let k : ℕ = get_or line.units j 0 in
       let inside : k < length units.members = prefix_in units f ok w finds j l in
-      let s = ok.are.shares k inside in
       elim (cases_Bool (nat_lt row (length units.firsts))) [
-        | inr v ↦ rw v (variable_row A (integer (entry line.entries j)) (number_in units row k) (entry w j) (share units k).num (share units k).den s.some (omega (arith, s.below)) (entry_is j l))
+        | inr v ↦ rw v (variable_row A (integer (entry line.entries j)) (number_in units row k) (entry w j) (share units k).num (share units k).den (ok.are.drawn k inside) (omega (arith, ok.are.below_one k inside)) (entry_is j l))
         | inl t ↦ elim (cases_eq (stratum units k) row) [
           | inl same ↦
               (let own : number_in units row k ≡ pos (ok.are.size k) = subst (λ (r : ℕ). entry (column units k) r ≡ pos (ok.are.size k)) same (ok.are.own_row k inside) in
@@ -137,5 +133,5 @@ module _ (units : Units) (f : Flight) (ok : IsFlying units f) (m : Move) (k : Is
   pub end_total : (plus_way : Bool) (row : ℕ) → row < f.rows → Same (sum_below (length units.members) (λ u. times (expanded units row u) (value_at (moved_values units f.values (chosen_line m plus_way)) u)))
       (sum_below (length units.members) (λ u. times (expanded units row u) (value_at f.values u)))
   end_total plus_way row l =
-      ends_stay (length units.members) (expanded units row) (value_at f.values) (λ p. value_at (moved_values units f.values (chosen_line m p))) m (λ p. (end_is units f ok m k p).along)
+      ends_stay (length units.members) (expanded units row) (value_at f.values) (λ p. value_at (moved_values units f.values (chosen_line m p))) m (λ p. (end_is units f ok m k p).moved.at)
       (subst (λ (x : Move). Same (sum_below (length units.members) (λ u. times (expanded units row u) (integer (entry_of x.direction u)))) (whole 0)) (sym k.same) (direction_total units f ok k.circuit k.finds row l)) plus_way

@@ -5,16 +5,17 @@ use Rattle.smp_frac.specs.Fractions.{Same, plus, whole}
 use Rattle.smp_prob.specs.Shares.{Shares}
 use Rattle.smp_frac.proofs.Arithmetic.{same_refl, same_trans}
 use Rattle.smp_split.specs.{Trees.{EachPart}, Parts.{moved}}
+use Rattle.smp_split.specs.Paths.{AtEachLeaf}
 use Rattle.smp_split.proofs.Paths.{at_each_leaf_kept}
 use Rattle.smp_moves.specs.{Moves.{Move, Next, fraction_of, independent, move, wide}, Owed.{HasKept, weighed_total}}
 use Rattle.smp_moves.specs.{Cubes.{flying, pairing, values_in, flight_kind}, Kept.Computed.{dropped}}
 use Rattle.smp_stratcube.specs.{declared.values.Value.{Value}, Units.{IsUnits, Units, stratum}, Kept.Computed.{chosen, next}}
 use Rattle.smp_stratcube.specs.{Values.{fractional_units, is_fractional, taken_over, value, value_at}, Pairs.{first_pair}}
-use Rattle.smp_stratcube.specs.{States.{Balancing, Flight, IsBalancing, IsFlying, IsPairing, started}, Laws.Meetings.{meeting_sums}}
+use Rattle.smp_stratcube.specs.{States.{Balancing, Flight, IsBalancing, IsFlying, IsPairing, started}}
 use Rattle.smp_stratcube.specs.{Kept.Pairs.{is_one_of, parts_of, units_by}, Laws.Splits.{none_open, strat_lawful, values_ok}}
-use Rattle.smp_stratcube.specs.{Kept.Trees.{HasCounts, flight_parts, strat_parts, strat_tree, weighed_of}, Laws.Taken.{taken_kept}}
-use Rattle.smp_stratcube.specs.Laws.Pairs.{IsMeeting, IsStep, each_paired, pair_found, step_at}
-use Rattle.smp_stratcube.specs.Laws.Units.{fractional_in, order_going}
+use Rattle.smp_stratcube.specs.{Kept.Trees.{flight_parts, strat_parts, strat_tree, tree_by, weighed_of}, Laws.Taken.{taken_kept}}
+use Rattle.smp_stratcube.specs.Laws.Pairs.{IsMeeting, IsStep, each_paired, meeting_sums, pair_found, step_at}
+use Rattle.smp_stratcube.specs.{Laws.Units.{fractional_in, order_going}, Counts.{HasCounts, selected_in}, Moves.{Stepping}, Steps.{of_steps}}
 use Rattle.smp_stratcube.proofs.{Alone.{alone_in}, Balances.{drop_at, end_kept, knows, started_flying, strat_start}, Totals.{end_total}}
 use Rattle.smp_stratcube.proofs.FirstPairs.{alone}
 use Rattle.smp_stratcube.proofs.StratumSums.{NoneOpen, alone_never, counted, kept_sum, paired_sum, stratum_sum, total_is}
@@ -56,7 +57,7 @@ module _ (units : Units) (h n : ℕ) (inside : h < length units.firsts) where
           | inr more ↦ inl (omega (arith, row, more))
           | inl last ↦
               inr (λ k opened e. alone_never units h f.values n k ok.values opened e
-              (λ j opened_j ej. alone_in units ok.are f.rows (omega (arith, last, inside)) f.values ok.values.count (drop_at units (flying f left) (ap flight_kind is)) j k opened_j opened (ej ∙ sym e))
+              (λ j opened_j ej. alone_in units ok.are f.rows (omega (arith, last, inside)) f.values ok.values.count (drop_at units (flying f left) (ap flight_kind is)).0 j k opened_j opened (ej ∙ sym e))
               keeps.0)
         ]
       ],
@@ -110,8 +111,9 @@ module _ (units : Units) (h n : ℕ) (inside : h < length units.firsts) where
   step_keeps (pairing values left) ok keeps = paired_keeps values ok left keeps (first_pair units (fractional_units values)) refl
 
 pub has_counts : (units : Units) → IsUnits units → HasCounts units (started units)
-has_counts units are h n inside adds path leaf leads done =
-    let start : Same (stratum_sum units h (values_in (started units))) (whole n) =
+has_counts units are h n inside adds =
+    of_steps (λ (steps : Stepping). AtEachLeaf (tree_by steps units) (started units) (λ path leaf. selected_in units h leaf ≡ n)) (λ path leaf leads done.
+    (let start : Same (stratum_sum units h (values_in (started units))) (whole n) =
     same_trans (rw (total_is units h (started units) inside) at ((strat_start units are).totals h (omega (arith, inside, are.strata)))) adds in
     let kept = at_each_leaf_kept (strat_tree units) (IsBalancing units) (strat_lawful units) (IsWholeIn units h n) (λ s ok going keeps. step_keeps units h n inside s ok keeps) (started units) (started_flying units are) (start, inl (omega (arith, inside, are.strata))) path leaf leads done in
-    counted units h leaf n (values_ok units leaf kept.1) (none_open (values_in leaf) done) (whole_of units h n leaf kept.0)
+    counted units h leaf n (values_ok units leaf kept.1) (none_open (values_in leaf) done) (whole_of units h n leaf kept.0)))

@@ -9,15 +9,15 @@ use Rattle.smp_split.specs.Trees.{picked, weight_sum}
 use Rattle.smp_values.specs.{Pairs.{pair_bound, pair_weights}, Values.{with_one, with_pair}}
 use Rattle.smp_values.proofs.{Changes.{two_at_i, two_at_j}, Fractional.{fractional_is}}
 use Rattle.smp_moves.specs.{declared.lines.Line.{Line as LineOfPlaces}, declared.reaches.Reach.{Reach}, Answers.{IsPadded, line_of}}
-use Rattle.smp_moves.specs.{Ends.{end_of, reach}, Moves.{IsLine, Line, turned}, Kept.Ends.{HasSmallEntries}}
+use Rattle.smp_moves.specs.{Ends.{reach}, Moves.{IsLine, Line, turned}, Kept.Ends.{HasSmallEntries}}
 use Rattle.smp_moves.proofs.Entries.{turned_line}
-use Rattle.smp_stratcube.specs.{Kept.Computed.{moved_values, moves}, Kept.Moves.{AreMoved, IsAlong}, declared.fronts.Front.{Front}}
-use Rattle.smp_stratcube.proofs.{Ending.{length_moved, moved_is}, Pairing.{pair_of_front}, Ahead.{front_count, front_going, in_front}}
+use Rattle.smp_stratcube.specs.{Kept.Computed.{moved_values, values_along}, Kept.Moves.{AreMoved, IsAlong}, declared.fronts.Front.{Front}}
+use Rattle.smp_stratcube.proofs.{Pairing.{pair_of_front}, Ahead.{front_count, front_going, in_front}}
 use Rattle.smp_stratcube.specs.{declared.values.Value.{Value}, Units.{Units, IsUnits, stratum}, States.{IsPairing}}
 use Rattle.smp_stratcube.specs.Values.{fractional_count, fractional_units, is_fractional, is_settled, nothing, over_common, stratum_common, taken_over, value, common_of}
 use Rattle.smp_stratcube.specs.{Pairs.{first_pair, paired_parts, step_units}, Kept.Fronts.{IsFront, front_units}}
 use Rattle.smp_stratcube.specs.Kept.Pairs.{HasStratum, as_value, is_one_of, met_at, parts_of, settled_at, units_by}
-use Rattle.smp_stratcube.specs.{Laws.Meetings.{step_in, step_open, step_some}, Laws.Units.{fractional_in}}
+use Rattle.smp_stratcube.specs.{Laws.Pairs.{step_in, step_open, step_some}, Laws.Units.{fractional_in}, Laws.Ends.{along_at, length_along}}
 use Rattle.smp_stratcube.specs.Laws.Pairs.{IsMeeting, among_apart, each_of, first_among, pair_found, second_among, stands_at}
 use Rattle.smp_stratcube.specs.Laws.Taken.{length_taken, numer_over, taken_kept, taken_moved}
 
@@ -205,10 +205,10 @@ stratum_in_front units are values count front is long i j h e same =
 
 pub gone_is : (units : Units) (count : ℕ) (values new : List Value) (line : LineOfPlaces) (den : ℕ) (r : Reach) → IsAlong count values line den r → AreMoved values new (line_of line) den r → (target : Line) → line_of line ≡ target → den ≡ common_of units values target.units → new ≡ moved_values units values target
 gone_is units count values new line den r a h target same den_is =
-    ext_get_or nothing new (taken_over (moves (line_of line)) values (end_of 1 (over_common den values) (line_of line)))
-    (h.count ∙ sym (length_moved count values line den r a))
-    (λ k l. (let b : k < length values = omega (arith, l, h.count) in h.each k b ∙ sym (moved_is count values line den r a k b)))
-    ∙ ap₂ (λ (m : ℕ) (x : Line). taken_over (moves x) values (end_of 1 (over_common m values) x)) den_is same
+    ext_get_or nothing new (values_along values (line_of line) den r) (h.count ∙ sym (length_along values (line_of line) den r))
+    (λ k l. (let b : k < length values = omega (arith, l, h.count) in h.each k b ∙ sym (along_at values (line_of line) den r k b)))
+    ∙ ap (values_along values (line_of line) den) a.is_reach
+    ∙ ap₂ (λ (m : ℕ) (x : Line). values_along values x m (reach (over_common m values) x)) den_is same
 
 pub turn_along : (count : ℕ) (values : List Value) (line back : LineOfPlaces) (den : ℕ) (up down : Reach) → IsAlong count values line den up → line_of back ≡ turned (line_of line) → IsPadded back → HasSmallEntries back → down ≡ reach (over_common den values) (turned (line_of line)) → IsAlong count values back den down
 turn_along count values line back den up down a turns padded small d = record {

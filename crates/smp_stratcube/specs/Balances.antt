@@ -11,9 +11,7 @@ use Rattle.smp_stratcube.specs.Units.{Units, column, share, stratum}
 use Rattle.smp_stratcube.specs.Values.{fractional_count, fractional_units, value}
 use Rattle.smp_stratcube.specs.States.{Balancing}
 use Rattle.smp_moves.specs.Steps.{IsStuck}
-use Rattle.smp_stratcube.specs.Moves.{Stepping}
-use Rattle.smp_stratcube.specs.Steps.{stepping}
-use Rattle.smp_stratcube.specs.Cube.{cube_by, tree_by}
+use Rattle.smp_stratcube.specs.Cube.{strat_cube, strat_tree}
 
 -- What a unit counts for in the total of a row. In the row of a stratum it is 1 for its units and 0 for all others; in the row of a
 -- variable it is its balancing value divided by its probability.
@@ -33,11 +31,11 @@ addend units row k =
 abbrev pub target : Units → ℕ → Fraction
 target units row = sum_below (length units.members) (addend units row)
 
--- The total of a row at a state is the sum of what each unit counts for, times its value: in the tree by such steps, and in that of the
--- cube. Of no units is it said here that their numbers are narrow.
-abbrev pub weighed_by : Stepping → Units → Weighed Balancing
-weighed_by steps units = record {
-  tree = tree_by steps units;
+-- The total of a row at a state is the sum of what each unit counts for, times its value. Of no units is it said here that their numbers
+-- are narrow.
+abbrev pub weighed_of : Units → Weighed Balancing
+weighed_of units = record {
+  tree = strat_tree units;
   rows = rows_in;
   left = left_in;
   undecided = λ s. fractional_count (values_in s);
@@ -46,13 +44,10 @@ weighed_by steps units = record {
   denom = λ s k. (value (values_in s) k).at.den;
   expanded = expanded units;
   known = target units;
-  independent = HasIndependentColumns (cube_by steps units);
-  stuck = λ s. IsStuck (cube_by steps units) (fractional_units (values_in s)) s;
+  independent = HasIndependentColumns (strat_cube units);
+  stuck = λ s. IsStuck (strat_cube units) (fractional_units (values_in s)) s;
   narrow = ⊥;
 }
-
-abbrev pub weighed_of : Units → Weighed Balancing
-weighed_of = weighed_by stepping
 
 -- the cube over all strata of these units is balanced from a state
 abbrev pub IsBalanced : Units → Balancing → Type 0

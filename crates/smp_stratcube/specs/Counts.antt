@@ -3,7 +3,6 @@ use Rattle.std.specs.Prelude.{◌≡◌, ℕ, ◌<◌, nat_eq, ◌&&◌, length}
 use Rattle.std.specs.List.{count_by, range_with_len}
 use Rattle.smp_frac.specs.Fractions.{Same, whole}
 use Rattle.smp_split.specs.Paths.{AtEachLeaf}
-use Rattle.smp_split.specs.Trees.{Tree}
 use Rattle.smp_moves.specs.Cubes.{values_in}
 use Rattle.smp_stratcube.specs.Units.{Units, stratum}
 use Rattle.smp_stratcube.specs.Values.{is_one}
@@ -18,11 +17,7 @@ selected_in units h state =
     (range_with_len 0 (length units.members))
 
 -- where the requested probabilities of a stratum add up to a whole number, each leaf selects that many of its units
-abbrev pub HasCountsIn : Tree Balancing → Units → Balancing → Type 0
-HasCountsIn tree units state =
-    (h n : ℕ) → h < length units.firsts → Same (target units h) (whole n)
-    → AtEachLeaf tree state (λ path leaf. selected_in units h leaf ≡ n)
-
--- so it is in the tree of the cube
 abbrev pub HasCounts : Units → Balancing → Type 0
-HasCounts units = HasCountsIn (strat_tree units) units
+HasCounts units state =
+    (h n : ℕ) → h < length units.firsts → Same (target units h) (whole n)
+    → AtEachLeaf (strat_tree units) state (λ path leaf. selected_in units h leaf ≡ n)

@@ -8,14 +8,14 @@ use Rattle.smp_moves.specs.Cubes.{Cube}
 use Rattle.smp_stratcube.specs.declared.values.Value.{Value}
 use Rattle.smp_stratcube.specs.Units.{Units}
 use Rattle.smp_stratcube.specs.Values.{fractional_count, fractional_units, is_fractional, is_one, value_at}
-use Rattle.smp_stratcube.specs.States.{Balancing, Flight}
-use Rattle.smp_stratcube.specs.Moves.{Stepping, setting_of}
+use Rattle.smp_stratcube.specs.States.{Balancing}
+use Rattle.smp_stratcube.specs.Moves.{setting_of}
 use Rattle.smp_stratcube.specs.Steps.{stepping}
 use Rattle.smp_stratcube.specs.Pairs.{paired_parts, step_units}
 
--- the cube over these units, by any `Stepping`
-abbrev pub cube_by : Stepping → Units → Cube (List Value)
-cube_by steps units = record {
+-- the cube over these units
+abbrev pub strat_cube : Units → Cube (List Value)
+strat_cube units = record {
   units = length units.members;
   value_at = value_at;
   is_one = is_one;
@@ -23,15 +23,11 @@ cube_by steps units = record {
   fractional_units = fractional_units;
   fractional_count = fractional_count;
   setting = setting_of units;
-  end_at = steps.end_at units;
+  end_at = stepping.end_at units;
   pair_kind = λ values. kind_on (step_units units values);
   pair_parts = paired_parts units;
 }
 
--- the draw tree of the cube over all strata of these units, by such steps
-abbrev pub tree_by : Stepping → Units → Tree Balancing
-tree_by steps units = cubes.tree_by (cube_by steps units) (λ (f : Flight). steps.next_on units (fractional_units f.values) f)
-
--- the draw tree of the cube over all strata of these units, by the steps of the cube
+-- the draw tree of the cube over all strata of these units
 abbrev pub strat_tree : Units → Tree Balancing
-strat_tree = tree_by stepping
+strat_tree units = cubes.tree_by (strat_cube units) (λ f. stepping.next_on units (fractional_units f.values) f)

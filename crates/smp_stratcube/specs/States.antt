@@ -28,7 +28,7 @@ started units =
 -- ---- the states of a selection
 
 -- A state of the flight: a unit that no move has changed has the value that is requested of it, and the common denominator fits its gate.
-pub record IsFlying (units : Units) (f : Flight) : Type 0 where
+pub record IsFlying (units : Units) (f : cubes.Flight (List Value) Units) : Type 0 where
   pub are : IsUnits units
   pub fixed_is : f.fixed ≡ units
   pub values : AreValues (length units.members) f.values

@@ -82,15 +82,9 @@ columns_of units order = map (column units) order
 
 -- ---- what holds of the units
 
--- a probability strictly between 0 and 1 in lowest terms, whose denominator divides that of its stratum
-pub record IsShare (common : ℕ) (r : Ratio) : Type 0 where
-  pub some : 0 < r.num
-  pub below : r.num < r.den
-  pub reduced : IsGcd r.num r.den 1
-  pub divides : r.den ∣ common
-
--- In the row of its stratum a unit has its size, to which its probability is in proportion, and in those of the other strata it has
--- 0. The units stand stratum by stratum.
+-- A probability is strictly between 0 and 1 and in lowest terms, and its denominator divides that of its stratum. In the row of its
+-- stratum a unit has its size, to which its probability is in proportion, and in those of the other strata it has 0. The units stand
+-- stratum by stratum.
 pub record IsUnits (units : Units) : Type 0 where
   pub few : length units.members ≤ 3000000
   pub few_rows : units.rows ≤ 16
@@ -98,7 +92,10 @@ pub record IsUnits (units : Units) : Type 0 where
   pub firsts : (h : ℕ) → (1 ≤ slice_index_or units.firsts h 1) × (slice_index_or units.firsts h 1 ≤ 2 ^ 49)
   pub within : (k : ℕ) → k < length units.members → stratum units k < length units.firsts
   pub rises : (j k : ℕ) → j ≤ k → k < length units.members → stratum units j ≤ stratum units k
-  pub shares : (k : ℕ) → k < length units.members → IsShare (first units k) (share units k)
+  pub drawn : (k : ℕ) → k < length units.members → 0 < (share units k).num
+  pub below_one : (k : ℕ) → k < length units.members → (share units k).num < (share units k).den
+  pub reduced : (k : ℕ) → k < length units.members → IsGcd (share units k).num (share units k).den 1
+  pub divides : (k : ℕ) → k < length units.members → (share units k).den ∣ first units k
   pub small : (k : ℕ) → k < length units.members → Within (2 ^ 31 - 1) (column units k)
   pub size : ℕ → ℕ
   pub some_size : (k : ℕ) → k < length units.members → 1 ≤ size k

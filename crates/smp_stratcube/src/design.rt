@@ -9,12 +9,13 @@ ghost use Rattle.smp_split.specs.Methods.{HasMeans};
 use crate::fronts::{EMPTY, front_of};
 use crate::layers::Layers;
 use crate::making::units_of;
-use crate::state::{Phase, StratCubeState};
+use crate::state::{StratCubeState, fractional};
 use crate::steps::step;
 use crate::units::Units;
-use crate::values::Value;
+use crate::values::{Value, at};
 use smp_frac::NoMemory;
 use smp_kernel::Tables;
+use smp_moves::Phase;
 use smp_split::{Kind, Splitting};
 use std::alloc::Global;
 use std::marker::Model;
@@ -104,8 +105,9 @@ impl Splitting for StratCube {
         self.units.len()
     }
 
+    #[tactic(auto, using(crate::proofs::Keeping::values_of))]
     fn done(&self, state: &StratCubeState) -> bool {
-        state.is_done()
+        fractional(state.values.as_slice(), &state.front) == 0
     }
 
     fn kind(&self, state: &StratCubeState) -> Kind {
@@ -120,7 +122,9 @@ impl Splitting for StratCube {
         state.advance(&self.units, draw);
     }
 
+    #[tactic(auto, using(crate::proofs::Keeping::values_of))]
     fn selected(&self, state: &StratCubeState, unit: usize) -> bool {
-        state.is_one(unit)
+        let value = at(state.values.as_slice(), unit);
+        value.at.num == value.at.den
     }
 }

@@ -4,14 +4,14 @@ ghost use Rattle.std.specs.{Prelude.{◌≡◌, ◌≤◌, ◌<◌, ◌^◌, ◌
 ghost use Rattle.smp_frac.specs.Limits.{most_denominator, most_entry, number_limit};
 ghost use Rattle.smp_kernel.specs.Vectors.{IsZero, Within, entry};
 ghost use Rattle.smp_stratcube.specs.{Units.{IsUnits, columns_of, share}, Kept.Gates.{IsSome, held}};
-ghost use Rattle.smp_moves.specs.Steps.{product, signed, common_multiple, scale_of, scaled};
-ghost use Rattle.smp_stratcube.specs.Kept.Lines.{AreInside, AreParts, IsLineOf, IsPart, direction_fits, over, part};
+ghost use Rattle.smp_moves.specs.{Steps.{product, signed, common_multiple, scale_of, scaled}, Kept.Computed.{IsLineOf, direction_fits}};
+ghost use Rattle.smp_stratcube.specs.Kept.Lines.{AreInside, AreParts, IsPart, over, part};
 
 use crate::fronts::Front;
 use crate::units::Units;
 use crate::values::within_gate;
-use smp_kernel::{Factors, reduced};
-use smp_moves::{Line, Ratio, first_units, lowest};
+use smp_kernel::Factors;
+use smp_moves::{Line, Ratio, line_through, lowest};
 
 /// The columns of the first units.
 pub(crate) fn columns_of(units: &Units, front: &Front) -> [[i32; 16]; 17]
@@ -33,8 +33,7 @@ fn product(share: Ratio, factor: i64) -> Ratio
     requires below { share.num < share.den }
     requires share { share.den ≤ 2 ^ 49 }
     requires factor { unsigned_abs factor ≤ most_entry }
-    ensures is { result ≡ product share factor }
-    ensures part { IsPart result }
+    ensures { result ≡ product share factor }
 {
     lowest(share.num * factor.unsigned_abs() as u128, share.den)
 }
@@ -47,7 +46,7 @@ fn parts_of(units: &Units, front: &Front, factors: &Factors) -> [Ratio; 17]
     requires small { (j : ℕ) → unsigned_abs (entry factors.now.w j) ≤ most_entry }
     ensures are { AreParts units.now front.now.units factors.now.w factors.now.number result }
     ensures long { length result ≡ 17 }
-    ensures each { (j : ℕ) → j < 17 → IsPart (part result j) }
+    ensures each { (j : ℕ) → j < factors.now.number → IsPart (part result j) }
 {
     let mut parts = [Ratio { num: 0, den: 1 }; 17];
     for place in 0..factors.number {
@@ -60,7 +59,7 @@ fn parts_of(units: &Units, front: &Front, factors: &Factors) -> [Ratio; 17]
 /// The least common denominator of the first products.
 fn scale_of(parts: &[Ratio; 17], number: usize) -> Option<u128>
     requires short { number ≤ 17 }
-    requires each { (j : ℕ) → j < 17 → IsPart (part parts.now j) }
+    requires each { (j : ℕ) → j < number → IsPart (part parts.now j) }
     ensures { result ≡ held (common_multiple (map (λ (r : Ratio). r.den) (take number parts.now))) }
 {
     let mut scale = Some(1);
@@ -83,7 +82,7 @@ fn signed(size: u128, factor: i64) -> i128
 /// The products over the scale, with the signs of the factors, and 0 in the places past them.
 fn products(parts: &[Ratio; 17], factors: &Factors, scale: u128) -> [i128; 17]
     requires short { factors.now.number ≤ 17 }
-    requires each { (j : ℕ) → j < 17 → IsPart (part parts.now j) }
+    requires each { (j : ℕ) → j < factors.now.number → IsPart (part parts.now j) }
     requires scale { scale ≤ most_denominator }
     ensures are { (j : ℕ) → j < factors.now.number → entry result j
         ≡ signed (entry factors.now.w j) (over (part parts.now j) scale) }
@@ -110,19 +109,15 @@ pub(crate) fn direction(units: &Units, front: &Front, factors: &Factors) -> Opti
     ensures { let number = factors.now.number in
         let prefix = take number front.now.units in let w = take number factors.now.w in
         MatchOption result
-        (direction_fits units.now prefix w ≡ false)
-        (IsLineOf units.now prefix w) }
+        (direction_fits (share units.now) prefix w ≡ false)
+        (IsLineOf (share units.now) prefix w) }
 {
     let parts = parts_of(units, front, factors);
     match scale_of(&parts, factors.number) {
         None => None,
-        Some(scale) => match reduced(&products(&parts, factors, scale)) {
-            None => None,
-            Some(entries) => Some(Line {
-                units: first_units(&front.units, factors.number),
-                entries,
-                number: factors.number,
-            }),
-        },
+        Some(scale) => {
+            let products = products(&parts, factors, scale);
+            line_through(&front.units, factors.number, &products)
+        }
     }
 }

@@ -7,14 +7,30 @@ ghost use Rattle.smp_moves.specs.{Moves.{IsLine, entry_of}, Ends.{reach}, Answer
 ghost use Rattle.smp_moves.specs.Kept.Ends.{CanMove, HasSmallEntries};
 ghost use Rattle.smp_stratcube.specs.{Units.{IsUnits, first}, Values.{IsValue, AreValues, common_of, over_common, value}};
 ghost use Rattle.smp_stratcube.specs.{Kept.Fronts.{IsFront}, Kept.Gates.{IsSome, held, with_unit}, Kept.Lines.{AreInside}};
-ghost use Rattle.smp_stratcube.specs.{Kept.Moves.{AreMoved, IsAlong, end_gathered, joined, moved_value}, Kept.Pairs.{as_value}};
+ghost use Rattle.smp_stratcube.specs.{Kept.Moves.{AreMoved, IsAlong, end_gathered, joined}, Kept.Computed.{moved_value}};
 
 use crate::fronts::Front;
-use crate::gates::{gathered, with_value};
 use crate::units::Units;
-use crate::values::{Value, value_over, within_gate};
+use crate::values::{Value, at, value_over, within_gate};
 use smp_frac::{gcd, quotient};
 use smp_moves::{Line, Reach, advanced, nearer, reach_of};
+
+/// The common denominator with what a unit of this value adds to it where it is touched and fractional: the common denominator of its
+/// stratum, and its own.
+fn with_value(units: &Units, common: Option<u128>, unit: usize, value: Value) -> Option<u128>
+    requires are { IsUnits units.now }
+    requires unit { unit < length units.now.members }
+    requires den { 1 ≤ value.at.den }
+    requires some { IsSome common }
+    ensures is { result ≡ with_unit (first units.now unit) value common }
+    ensures some { IsSome result }
+{
+    if value.touched && value.is_fractional() {
+        within_gate(within_gate(common, units.first(unit)), value.at.den)
+    } else {
+        common
+    }
+}
 
 /// The common denominator of a state and of the strata of a line, where it fits.
 pub(crate) fn denominator(
@@ -31,9 +47,13 @@ pub(crate) fn denominator(
         → slice_index line.now.units j < length units.now.members }
     ensures { result ≡ held (common_of units.now values.now (line_of line.now).units) }
 {
-    let mut common = gathered(units, values, front);
-    for place in 0..line.number {
-        common = within_gate(common, units.first(line.units[place]));
+    let mut common = Some(1);
+    for place in 0..front.number {
+        let unit = front.units[place];
+        common = with_value(units, common, unit, at(values, unit));
+    }
+    for entry in 0..line.number {
+        common = within_gate(common, units.first(line.units[entry]));
     }
     common
 }
@@ -51,7 +71,7 @@ pub(crate) fn reach_along(values: &[Value], den: u128, line: &Line) -> Reach
 {
     let mut least = Reach { left: 1, size: 0 };
     for place in 0..line.number {
-        let a = values[line.units[place]].over(den);
+        let a = at(values, line.units[place]).over(den);
         least = nearer(least, reach_of(a, den, line.entries[place]));
     }
     least
@@ -79,27 +99,6 @@ struct Gathered {
     common: Option<u128>,
     /// What the denominator of the others has in common with all their numerators: over the rest of it they are in lowest terms together.
     shared: u128,
-}
-
-/// The same with a unit that the line moves, by its numerator there.
-fn with_moved(units: &Units, gathered: Gathered, unit: usize, number: u128, full: u128) -> Gathered
-    requires are { IsUnits units.now }
-    requires unit { unit < length units.now.members }
-    requires full { 1 ≤ full }
-    requires some { IsSome gathered.common }
-    requires shared { gathered.shared ∣ full }
-    ensures is { joined full result
-        ≡ with_unit (first units.now unit) (as_value number full) (joined full gathered) }
-    ensures some { IsSome result.common }
-    ensures shared { result.shared ∣ full }
-{
-    if number == 0 || full <= number {
-        return gathered;
-    }
-    Gathered {
-        common: within_gate(gathered.common, units.first(unit)),
-        shared: gcd(number, gathered.shared),
-    }
 }
 
 /// The same with a unit of this value, and of this entry on the line.
@@ -133,8 +132,15 @@ fn with_end(
             shared: gathered.shared,
         };
     }
+    let full = den * reach.size;
     let number = advanced(value.over(den), reach, entry);
-    with_moved(units, gathered, unit, number, den * reach.size)
+    if number == 0 || full <= number {
+        return gathered;
+    }
+    Gathered {
+        common: within_gate(gathered.common, units.first(unit)),
+        shared: gcd(number, gathered.shared),
+    }
 }
 
 /// Whether the common denominator fits at an end of a line.
@@ -160,7 +166,7 @@ pub(crate) fn end_fits(
     for place in 0..front.number {
         let unit = front.units[place];
         let entry = line.entry(unit);
-        gathered = with_end(units, gathered, unit, values[unit], den, reach, entry);
+        gathered = with_end(units, gathered, unit, at(values, unit), den, reach, entry);
     }
     within_gate(gathered.common, quotient(full, gathered.shared)).is_some()
 }

@@ -3,7 +3,7 @@
 ghost use Rattle.std.specs.Prelude.{◌≡◌, ℕ, ◌<◌, ◌≤◌, length, slice_index};
 ghost use Rattle.smp_stratcube.specs.Kept.Fronts.{IsAhead, IsFilled, IsFront, IsStanding};
 
-use crate::values::Value;
+use crate::values::{Value, at};
 
 /// The first fractional units, in the first places of an array. Each unit from the place on is fractional, and no step has changed it.
 #[derive(Clone, Copy)]
@@ -34,7 +34,7 @@ fn standing(front: &Front, values: &[Value]) -> Front
     };
     for place in 0..front.number {
         let unit = front.units[place];
-        if values[unit].is_fractional() {
+        if at(values, unit).is_fractional() {
             still.units[still.number] = unit;
             still.number += 1;
         }

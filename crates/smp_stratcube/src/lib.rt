@@ -10,7 +10,6 @@ mod design;
 mod directions;
 mod ends;
 mod fronts;
-mod gates;
 mod laws;
 mod layers;
 mod making;

@@ -4,23 +4,15 @@ ghost use Rattle.std.specs.Prelude.{◌≡◌, ◌<◌, ◌≤◌, Some, false, 
 ghost use Rattle.smp_frac.specs.Limits.{most_denominator};
 ghost use Rattle.smp_split.specs.Trees.{picked, weight_sum};
 ghost use Rattle.smp_values.specs.Steps.{kind_on};
-ghost use Rattle.smp_stratcube.specs.{Units.{IsUnits}, Values.{fractional_units, is_settled, stratum_common, value}};
+ghost use Rattle.smp_stratcube.specs.{Units.{IsUnits}, Values.{fractional_units, is_settled, stratum_common}};
 ghost use Rattle.smp_stratcube.specs.{Pairs.{first_pair, paired_parts, step_units}, States.{IsPairing}, Kept.Fronts.{IsFront}};
 ghost use Rattle.smp_stratcube.specs.Kept.Pairs.{AreMet, HasStratum, IsMeeting, settled_at};
 
 use crate::fronts::Front;
 use crate::units::Units;
-use crate::values::{Value, least_multiple, value_over};
+use crate::values::{Value, at, least_multiple, value_over};
 use smp_split::Kind;
 use smp_values::{pair_apply, pair_bound};
-
-/// The value of a unit.
-fn at(values: &[Value], unit: usize) -> Value
-    requires { unit < length values.now }
-    ensures { result ≡ value values.now unit }
-{
-    values[unit]
-}
 
 /// The first two fractional units of the first stratum that has two: neighbours in the front, as units stand stratum by stratum.
 fn first_pair(units: &Units, values: &[Value], front: &Front) -> Option<(usize, usize)>

@@ -1,12 +1,12 @@
 //! The states of a selection.
 
-ghost use Rattle.std.specs.Prelude.{◌≡◌, ◌*◌, ◌<◌, ◌≤◌, false, length};
+ghost use Rattle.std.specs.Prelude.{◌≡◌, ◌+◌, ◌*◌, ◌<◌, ◌≤◌, false, length};
 ghost use Rattle.smp_frac.specs.Limits.{most_rows};
 ghost use Rattle.smp_split.specs.Trees.{picked, weight_sum};
-ghost use Rattle.smp_moves.specs.Cubes.{landed, values_in};
-ghost use Rattle.smp_stratcube.specs.{States.{Balancing, Flight, IsBalancing, IsFlying}, Values.{fractional_count, is_one, is_settled}};
+ghost use Rattle.smp_moves.specs.{Cubes.{landed, values_in}, Kept.Phases.{balancing_of}};
+ghost use Rattle.smp_stratcube.specs.{States.{Balancing, IsBalancing, IsFlying}, Values.{fractional_count, is_settled}};
 ghost use Rattle.smp_stratcube.specs.{Kept.Trees.{strat_kind, strat_parts}, Kept.Fronts.{IsFront}, Kept.Moves.{HasGone, IsMoveOf}};
-ghost use Rattle.smp_stratcube.specs.{Kept.Computed.{flight_of}, Kept.States.{IsKept, balancing_of}};
+ghost use Rattle.smp_stratcube.specs.{Kept.Computed.{flight_of}, Kept.States.{IsKept}};
 
 use crate::ends::go;
 use crate::fronts::{Front, front_of};
@@ -15,18 +15,10 @@ use crate::steps::{Move, Next, step};
 use crate::units::Units;
 use crate::values::Value;
 use smp_kernel::Tables;
+use smp_moves::Phase;
 use smp_split::Kind;
 use std::marker::Model;
 use std::snapshot::Snapshot;
-
-/// Where a selection stands.
-#[derive(Clone, Copy)]
-pub(crate) enum Phase {
-    /// The flight goes on, before the landing or in it.
-    Flying,
-    /// Pivotal steps finish the selection.
-    Pairing,
-}
 
 /// A state of a selection by the cube over all strata.
 #[derive(Drop)]
@@ -47,15 +39,17 @@ pub struct StratCubeState {
 impl Model for StratCubeState {
     ghost Value = { Balancing };
 
-    ghost view = { λ a. balancing_of a.of.value a.phase a.values.items a.rows a.left };
+    ghost view = { λ a. balancing_of a.phase (flight_of a.of.value a.values.items a.rows) a.values.items a.left };
 
     ghost invariant = { λ a. IsKept a.of.value a.phase a.values.items a.rows a.front a.found.value };
 }
 
 /// How many units are fractional.
-fn fractional(values: &[Value], front: &Front) -> usize
+#[tactic(auto, using(crate::proofs::Ahead::front_count))]
+pub(crate) fn fractional(values: &[Value], front: &Front) -> usize
     requires { IsFront values.now front.now }
-    ensures { result ≡ fractional_count values.now }
+    ensures is { result ≡ fractional_count values.now }
+    ensures few { result ≤ 17 + length values.now }
 {
     front.number + (values.len() - front.place)
 }
@@ -95,22 +89,6 @@ fn fly(units: &Units, values: &mut Vec<Value>, rows: usize, mv: &Move, plus: boo
 }
 
 impl StratCubeState {
-    /// Whether no unit is fractional.
-    pub(crate) fn is_done(&self) -> bool
-        ensures { result ≡ is_settled (values_in self.now) }
-    {
-        fractional(self.values.as_slice(), &self.front) == 0
-    }
-
-    /// Whether the value of a unit is 1.
-    pub(crate) fn is_one(&self, unit: usize) -> bool
-        requires { unit < length (values_in self.now) }
-        ensures { result ≡ is_one (values_in self.now) unit }
-    {
-        let value = self.values[unit];
-        value.at.num == value.at.den
-    }
-
     /// The kind of the next step.
     pub(crate) fn kind(&self, units: &Units) -> Kind
         requires { IsBalancing units.now self.now }

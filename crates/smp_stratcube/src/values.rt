@@ -1,11 +1,11 @@
 //! Values in lowest terms.
 
-ghost use Rattle.std.specs.Prelude.{◌≡◌, ◌*◌, ◌/◌, ◌≤◌, true};
+ghost use Rattle.std.specs.Prelude.{◌≡◌, ◌*◌, ◌/◌, ◌<◌, ◌≤◌, length, true};
 ghost use Rattle.smp_frac.specs.Limits.{most_denominator};
 ghost use Rattle.smp_prob.specs.Given.{least_multiple};
 ghost use Rattle.smp_values.specs.Values.{fractional};
 ghost use Rattle.smp_moves.specs.Ends.{lowest};
-ghost use Rattle.smp_stratcube.specs.{Values.{IsValue}, Kept.Gates.{IsSome, gated}};
+ghost use Rattle.smp_stratcube.specs.{Values.{IsValue, value}, Kept.Gates.{IsSome, gated}};
 
 use smp_frac::{gcd, lcm_within, quotient};
 use smp_moves::{Ratio, lowest};
@@ -47,6 +47,14 @@ impl Value {
     {
         self.at.num * (den / self.at.den)
     }
+}
+
+/// The value of a unit.
+pub(crate) fn at(values: &[Value], unit: usize) -> Value
+    requires { unit < length values.now }
+    ensures { result ≡ value values.now unit }
+{
+    values[unit]
 }
 
 /// The least common multiple of a number and another, where both are there and it is at most the gate.

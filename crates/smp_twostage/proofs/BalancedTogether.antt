@@ -9,7 +9,7 @@ use Rattle.smp_flight.specs.Totals as free
 use Rattle.smp_stratcube.specs.{Balances.{addend, expanded, weighed_of}, States.{Balancing, started}, Kept.Layers.{width, first_of}}
 use Rattle.smp_stratcube.specs.{Layers.{AreLayers, IsLayer, Layer, no_layer, variables}, Units.{IsUnits, Units, members_from}}
 use Rattle.smp_stratcube.specs.Values.{is_fractional, is_one, value_at}
-use Rattle.smp_stratcube.proofs.{Balances.{started_flying}, BySteps.{is_balanced as strat_balanced}, Layered.{units_are}}
+use Rattle.smp_stratcube.proofs.{Balances.{started_flying, strat_balanced}, Layered.{units_are}}
 use Rattle.smp_twostage.specs.Strata.{StratumUnits, AreStratumUnits, column_count, free_units, free_values}
 use Rattle.smp_twostage.specs.Totals.{EachFrameIsBalanced, IsBalancedFrame, IsFrame, columns_in, error_bound, estimate, frame_balance, frame_units, known, layers_of, over_frame, total}
 use Rattle.smp_twostage.proofs.{Absolute.{absolute_same}, AddedTotals.{is_added}, LayerRuns.{all_units}, BalanceTerms.{cond_same}}

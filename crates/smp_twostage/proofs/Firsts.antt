@@ -16,7 +16,7 @@ use Rattle.smp_strata.specs.{Bounds.{IsFirst, DrawsWholeOver}, Plans.{Plan}, dec
 use Rattle.smp_strata.specs.declared.strata.Stratum.{Stratum}
 use Rattle.smp_twostage.specs.{Strata.{free_values}, Kept.Stages.{EachStarts, IsPlanned, StageStarts}, Plans.{CanBeDrawn, TakesRows}}
 use Rattle.smp_stratcube.specs.{Layers.{IsLayer, no_layer}, Kept.Layers.{layer_of}, Units.{IsUnits, units_of}}
-use Rattle.smp_stratcube.proofs.{BySteps.{counts_so, is_balanced}, Layered.{units_are}, Starting.{are_requested, strat_means}}
+use Rattle.smp_stratcube.proofs.{Balances.{strat_balanced}, WholeStrata.{has_counts}, Layered.{units_are}, Starting.{are_requested, strat_means}}
 use Rattle.smp_stratcube.proofs.Stored.{layer_is}
 use Rattle.smp_twostage.specs.Selections.{BelongsToCovered, BelongsToWhole, Selecting, balancing, belongs_to, covered_stages, covered_start, covered_states, first_stage, free_points, layers_of, parts_by, second_stage, stage_by, stage_of_strata, stage_within, stages_below, stages_in, stages_of, stages_within, start_of, tree_of}
 use Rattle.smp_twostage.specs.Kept.Sides.{states_of}
@@ -133,7 +133,7 @@ module _ (plan : Plan) (drawable : CanBeDrawn plan) where
     together_started =
         are_started (layers_of plan) (design_of_strata (layers_of plan)) (first_state (design_of_strata (layers_of plan))) refl
         (are_requested (layers_of plan) (are_layers plan drawable same) each_is) refl (strat_means (units_of (layers_of plan)) are_units).member
-        (counts_so (units_of (layers_of plan)) are_units, is_balanced (units_of (layers_of plan)) are_units)
+        (has_counts (units_of (layers_of plan)) are_units, strat_balanced (units_of (layers_of plan)) are_units)
 
     pub together_belongs : EachBelongs tree_of belongs_to (stage_of_strata plan ∷ []) (first_state (stage_of_strata plan).design.design ∷ [])
     together_belongs = (stage_first plan drawable together_started.means).belong

@@ -6,7 +6,7 @@ use Rattle.smp_frac.specs.Fractions.{Fraction, Same, plus, sum_below, times, who
 use Rattle.smp_frac.proofs.Arithmetic.{one-times, plus-zero, plus_assoc, plus_same, same_refl, same_sym, same_trans, sum-zero, sum_same, zero-plus, zero-times}
 use Rattle.smp_stratcube.specs.{declared.units.Member.{Member}, Layers.{Layer, no_layer}, Requests.{offset}}
 use Rattle.smp_stratcube.specs.Units.{member_of, members_from, nobody}
-use Rattle.smp_stratcube.proofs.Layered.{length-own, own, own_at, unit_of}
+use Rattle.smp_stratcube.proofs.Layered.{length-own, own, own_at, unit_is, unit_of}
 
 sum_split : (n m : ℕ) (f : ℕ → Fraction) → Same (sum_below (n + m) f) (plus (sum_below n f) (sum_below m (λ k. f (n + k))))
 sum_split n zero f =
@@ -54,7 +54,7 @@ module _ (count : ℕ) where
     later_stratum : (k : ℕ) → k < length (members_from count (suc h0) layers) → suc h0 ≤ (get_or rest k nobody).stratum
     later_stratum k l =
         let r = unit_of count (suc h0) layers k l in
-        let is : (get_or rest k nobody).stratum ≡ suc h0 + r.h = ap (λ (m : Member). m.stratum) r.is in
+        let is : (get_or rest k nobody).stratum ≡ suc h0 + r.h = ap (λ (m : Member). m.stratum) (unit_is count (suc h0) layers k r) in
         omega (arith, is)
 
     pub halves : (f : ℕ → Fraction) → Same (sum_below (length (members_from count h0 (layer ∷ layers))) f) (plus (sum_below size f) (sum_below (length rest) (λ k. f (size + k))))

@@ -19,10 +19,9 @@ use Rattle.smp_flight.specs.Narrow.{IsNarrow}
 use Rattle.smp_flight.specs.Cube.{cube_of}
 use Rattle.smp_localcube.specs.Local.{IsLocal, local_of}
 use Rattle.smp_localcube.specs.Method.{started}
-use Rattle.smp_stratcube.specs.Cube.{cube_by, strat_tree}
+use Rattle.smp_stratcube.specs.Cube.{strat_cube, strat_tree}
 use Rattle.smp_stratcube.specs.Layers.{Layer}
 use Rattle.smp_stratcube.specs.States as strata
-use Rattle.smp_stratcube.specs.Steps.{stepping}
 use Rattle.smp_stratcube.specs.Units.{Units, units_of}
 use Rattle.smp_stratcube.specs.Values.{fractional_units}
 use Rattle.smp_twostage.specs.Strata.{StratumUnits, AreStratumUnits, column_count, free_units, free_values, value_in}
@@ -166,7 +165,7 @@ frame_units frame = units_of (layers_of frame)
 -- what the cube over all strata balances
 abbrev pub frame_balance : List StratumUnits → Balance strata.Balancing
 frame_balance frame =
-    balance_over frame (cube_by stepping (frame_units frame)) (strat_tree (frame_units frame)) (λ t. t)
+    balance_over frame (strat_cube (frame_units frame)) (strat_tree (frame_units frame)) (λ t. t)
     (λ t. fractional_units (values_in t)) ⊥
 
 -- the selection of all strata is balanced from its start, which is a state of its own

@@ -1,27 +1,39 @@
 -- How the code finds a step.
-use Rattle.std.specs.Prelude.{ℕ, nat_eq, not, Bool, List}
+use Rattle.std.specs.Prelude.{ℕ, ◌*◌, ◌/◌, nat_eq, true, Bool, if◌then◌else◌, List, ℤ, length, map}
+use Rattle.std.specs.List.{range_with_len}
 use Rattle.std.specs.Int.RustNames.{unsigned_abs}
 use Rattle.smp_moves.specs.Cubes.{chosen_by}
-use Rattle.smp_moves.specs.Ends.{end_of}
+use Rattle.smp_moves.specs.declared.reaches.Reach.{Reach}
+use Rattle.smp_moves.specs.Ends.{advanced, lowest, reach}
 use Rattle.smp_moves.specs.Kept.Computed.{next_by}
 use Rattle.smp_moves.specs.Moves.{Line, Move, Next, entry_of}
 use Rattle.smp_stratcube.specs.declared.values.Value.{Value}
 use Rattle.smp_stratcube.specs.Units.{Units}
 use Rattle.smp_stratcube.specs.States.{Flight}
 use Rattle.smp_stratcube.specs.Moves.{setting_of}
-use Rattle.smp_stratcube.specs.Values.{fractional_units, over_common, taken_over, common_of}
+use Rattle.smp_stratcube.specs.Values.{fractional_units, over_common, common_of, value}
 
 -- ---- the ends
 
--- whether the line moves a unit
-abbrev pub moves : Line → ℕ → Bool
-moves line k = not (nat_eq (unsigned_abs (entry_of line k)) 0)
+-- the value at the end of a line, of a unit whose entry there is e
+abbrev pub moved_value : Value → ℕ → Reach → ℤ → Value
+moved_value v den r e =
+    if nat_eq (unsigned_abs e) 0 then v
+    else record {
+      at = lowest (advanced (v.at.num * (den / v.at.den)) r e) (den * r.size);
+      touched = true;
+    }
+
+-- the values at its end, over a common denominator
+abbrev pub values_along : List Value → Line → ℕ → Reach → List Value
+values_along values line den r =
+    map (λ k. moved_value (value values k) den r (entry_of line k)) (range_with_len 0 (length values))
 
 -- the values at the end of a line
 abbrev pub moved_values : Units → List Value → Line → List Value
 moved_values units values line =
     let den = common_of units values line.units in
-    taken_over (moves line) values (end_of 1 (over_common den values) line)
+    values_along values line den (reach (over_common den values) line)
 
 -- ---- the step
 

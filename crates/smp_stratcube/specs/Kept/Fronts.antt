@@ -22,6 +22,7 @@ pub record IsStanding (values : List Value) (front still : Front) : Type 0 where
 -- the same units, of which 17 stand in the array, or all of them
 pub record IsFilled (count : ℕ) (front full : Front) : Type 0 where
   pub short : full.number ≤ 17
+  pub long : full.number ≤ length full.units
   pub within : full.place ≤ count
   pub later : front.place ≤ full.place
   pub all : front_units full ++ units_on full.place count ≡ front_units front ++ units_on front.place count
@@ -32,6 +33,7 @@ pub record IsFilled (count : ℕ) (front full : Front) : Type 0 where
 pub record IsFront (values : List Value) (front : Front) : Type 0 where
   pub short : front.number ≤ 17
   pub within : front.place ≤ length values
+  pub inside : (j : ℕ) → j < front.number → slice_index front.units j < length values
   pub all : front_units front ++ units_on front.place (length values) ≡ fractional_units values
   pub enough : (front.number ≡ 17) ⊎ (front.place ≡ length values)
   pub fresh : (k : ℕ) → front.place ≤ k → (value values k).touched ≡ false

@@ -1,5 +1,5 @@
 -- Common multiples that are held to the gate.
-use Rattle.std.specs.Prelude.{ℕ, ◌≤◌, nat_le, ◌&&◌, if◌then◌else◌, Option, Some, None, List, [], ◌∷◌, ⊤}
+use Rattle.std.specs.Prelude.{ℕ, ◌≤◌, nat_le, ◌&&◌, if◌then◌else◌, Option, Some, None, List, fold, ⊤}
 use Rattle.smp_frac.specs.Limits.{most_denominator}
 use Rattle.smp_prob.specs.Given.{least_multiple}
 use Rattle.smp_values.specs.Values.{fractional}
@@ -24,8 +24,7 @@ with_unit first v common =
 
 -- that of a common denominator and the numbers that some units of these values add to it
 abbrev pub gathered : Units → (ℕ → Value) → Option ℕ → List ℕ → Option ℕ
-gathered units at common [] = common
-gathered units at common (k ∷ ks) = gathered units at (with_unit (first units k) (at k) common) ks
+gathered units at = fold (λ common k. with_unit (first units k) (at k) common)
 
 -- a number that is at most the gate
 abbrev pub held : ℕ → Option ℕ

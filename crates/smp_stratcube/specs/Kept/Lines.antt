@@ -1,20 +1,17 @@
 -- What the code keeps of a line.
-use Rattle.std.specs.Prelude.{◌≡◌, ℕ, ◌*◌, ◌/◌, ◌<◌, ◌≤◌, ◌&&◌, nat_le, true, Bool, List, ℤ, length, slice_index, slice_index_or, take}
-use Rattle.smp_frac.specs.Limits.{most_denominator, most_entry}
+use Rattle.std.specs.Prelude.{◌≡◌, ℕ, ◌*◌, ◌/◌, ◌<◌, ◌≤◌, List, ℤ, length, slice_index, slice_index_or, take}
+use Rattle.smp_frac.specs.Limits.{most_entry}
 use Rattle.smp_kernel.specs.Searches.{found}
 use Rattle.smp_kernel.specs.Vectors.{entry}
 use Rattle.smp_moves.specs.declared.lines.Ratio.{Ratio}
-use Rattle.smp_moves.specs.Answers.{IsPadded, line_of}
-use Rattle.smp_moves.specs.Ends.{entries_fit}
-use Rattle.smp_moves.specs.Kept.Ends.{HasSmallEntries}
 use Rattle.smp_moves.specs.declared.lines.Line.{Line as LineOfPlaces}
 use Rattle.smp_stratcube.specs.declared.fronts.Front.{Front}
 use Rattle.smp_stratcube.specs.Units.{Units, share}
 use Rattle.smp_stratcube.specs.Values.{fractional_units}
 use Rattle.smp_stratcube.specs.States.{Flight}
 use Rattle.smp_stratcube.specs.Moves.{setting_of}
-use Rattle.smp_moves.specs.Steps.{Finds, product, scale_of}
-use Rattle.smp_moves.specs.Kept.Computed.{direction_on}
+use Rattle.smp_moves.specs.Steps.{Finds, product}
+use Rattle.smp_moves.specs.Kept.Computed.{IsLineOf}
 
 -- the units of a front are among so many
 pub record AreInside (count : ℕ) (front : Front) : Type 0 where
@@ -42,20 +39,8 @@ pub record IsPart (r : Ratio) : Type 0 where
 abbrev pub over : Ratio → ℕ → ℕ
 over r den = r.num * (den / r.den)
 
--- the common denominator of the products and the entries of the direction fit
-abbrev pub direction_fits : Units → List ℕ → List ℤ → Bool
-direction_fits units prefix w =
-    nat_le (scale_of (share units) prefix w) most_denominator && entries_fit (direction_on (share units) prefix w)
-
--- the direction at these units, which fits
-pub record IsLineOf (units : Units) (prefix : List ℕ) (w : List ℤ) (line : LineOfPlaces) : Type 0 where
-  pub is : line_of line ≡ direction_on (share units) prefix w
-  pub fits : direction_fits units prefix w ≡ true
-  pub padded : IsPadded line
-  pub small : HasSmallEntries line
-
 -- the line is that of a circuit which the search finds
 pub record HasDirection (units : Units) (f : Flight) (line : LineOfPlaces) : Type 0 where
   pub circuit : List ℤ
   pub finds : Finds (setting_of units) f (fractional_units f.values) (found circuit)
-  pub is_line : IsLineOf units (take (length circuit) (fractional_units f.values)) circuit line
+  pub is_line : IsLineOf (share units) (take (length circuit) (fractional_units f.values)) circuit line

@@ -1,13 +1,12 @@
 -- What the code keeps of a move.
-use Rattle.std.specs.Prelude.{◌≡◌, ℕ, ◌<◌, ◌≤◌, ◌*◌, ◌/◌, nat_eq, true, Bool, Option, Some, if◌then◌else◌, List, ℤ, length, slice_index}
+use Rattle.std.specs.Prelude.{◌≡◌, ℕ, ◌<◌, ◌≤◌, ◌/◌, Bool, Option, Some, List, length, slice_index}
 use Prim.Native.Nat.{◌∣◌}
 use Rattle.std.specs.Option.{is_some}
-use Rattle.std.specs.Int.RustNames.{unsigned_abs}
 use Rattle.smp_frac.specs.Limits.{most_denominator}
 use Rattle.smp_moves.specs.declared.lines.Line.{Line as LineOfPlaces}
 use Rattle.smp_moves.specs.declared.reaches.Reach.{Reach}
 use Rattle.smp_moves.specs.Moves.{Line, IsLine, entry_of, independent, move, wide, turned}
-use Rattle.smp_moves.specs.Ends.{advanced, lowest, reach}
+use Rattle.smp_moves.specs.Ends.{reach}
 use Rattle.smp_moves.specs.Answers.{IsPadded, line_of}
 use Rattle.smp_moves.specs.Kept.Ends.{HasSmallEntries}
 use Rattle.smp_stratcube.specs.declared.ends.Gathered.{Gathered}
@@ -19,20 +18,11 @@ use Rattle.smp_stratcube.specs.declared.steps.Next.TheVariants as answers
 use Rattle.smp_stratcube.specs.Units.{Units}
 use Rattle.smp_stratcube.specs.Values.{AreValues, over_common, value, common_of}
 use Rattle.smp_stratcube.specs.States.{Flight}
-use Rattle.smp_stratcube.specs.Kept.Computed.{chosen, next}
+use Rattle.smp_stratcube.specs.Kept.Computed.{chosen, moved_value, next}
 use Rattle.smp_stratcube.specs.Moves.{setting_of}
 use Rattle.smp_stratcube.specs.Kept.Fronts.{front_units}
 use Rattle.smp_stratcube.specs.Kept.Gates.{gated, gathered}
 use Rattle.smp_moves.specs.Kept.Computed.{next_along}
-
--- the value at the end of a line, of a unit whose entry there is e
-abbrev pub moved_value : Value → ℕ → Reach → ℤ → Value
-moved_value v den r e =
-    if nat_eq (unsigned_abs e) 0 then v
-    else record {
-      at = lowest (advanced (v.at.num * (den / v.at.den)) r e) (den * r.size);
-      touched = true;
-    }
 
 -- a line of these values over a common denominator, and how far it can be followed
 pub record IsAlong (count : ℕ) (values : List Value) (line : LineOfPlaces) (den : ℕ) (r : Reach) : Type 0 where

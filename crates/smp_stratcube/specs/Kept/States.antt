@@ -1,15 +1,14 @@
 -- What the code keeps of a state.
 use Rattle.std.specs.Prelude.{ℕ, ◌*◌, ◌≤◌, false, List, length}
 use Rattle.smp_frac.specs.Limits.{most_rows}
-use Rattle.smp_moves.specs.Cubes.{flying, pairing}
 use Rattle.smp_stratcube.specs.declared.fronts.Front.{Front}
-use Rattle.smp_stratcube.specs.declared.state.Phase.{Phase}
-use Rattle.smp_stratcube.specs.declared.state.Phase.TheVariants.{Flying, Pairing}
+use Rattle.smp_moves.specs.declared.phases.Phase.{Phase}
+use Rattle.smp_moves.specs.declared.phases.Phase.TheVariants.{Flying, Pairing}
 use Rattle.smp_stratcube.specs.declared.steps.Next.{Next as Answer}
 use Rattle.smp_stratcube.specs.declared.units.Member.{Member}
 use Rattle.smp_stratcube.specs.declared.values.Value.{Value}
 use Rattle.smp_stratcube.specs.Units.{Units}
-use Rattle.smp_stratcube.specs.States.{Balancing, Flight}
+use Rattle.smp_stratcube.specs.States.{Flight}
 use Rattle.smp_stratcube.specs.Kept.Fronts.{IsFront}
 use Rattle.smp_stratcube.specs.Kept.Computed.{flight_of}
 use Rattle.smp_stratcube.specs.Kept.Moves.{IsStep}
@@ -17,10 +16,6 @@ use Rattle.smp_stratcube.specs.Kept.Moves.{IsStep}
 -- the value with which a unit starts
 abbrev pub requested_value : Member → Value
 requested_value m = record { at = m.share; touched = false }
-
-abbrev pub balancing_of : Units → Phase → List Value → ℕ → ℕ → Balancing
-balancing_of units Flying values rows left = flying (flight_of units values rows) left
-balancing_of units Pairing values rows left = pairing values left
 
 -- as long as the flight goes on, the answer is its next step
 abbrev pub IsNextIn : Phase → Units → Flight → Answer → Type 0

@@ -1,15 +1,18 @@
 -- The direction of a circuit that was found goes through values over a common denominator. So the step of a state has the properties of
 -- a step, and the ends of its move are states of the flight.
-use Rattle.std.proofs.Common.{◌≡◌, ℕ, ◌<◌, ◌≤◌, ◌^◌, Bool, true, false, ℤ, List, [], take, length, get_or, arith, refl, sym, ap, ◌∙◌, subst}
+use Rattle.std.proofs.Common.{◌≡◌, ℕ, ◌<◌, ◌≤◌, ◌^◌, Bool, true, false, ℤ, List, [], take, length, get_or, arith}
+use Rattle.std.proofs.Common.{inl, inr, refl, sym, ap, ◌∙◌, subst}
+use Rattle.std.proofs.lemmas.Bool.{true≢false}
 use Rattle.std.proofs.lemmas.List.Elements.{All-from_get_or}
 use Prim.Native.Nat.{◌∣◌}
-use Rattle.smp_frac.specs.Fractions.{Fraction, Same, integer, plus, times}
 use Rattle.smp_kernel.specs.Searches.{found}
 use Rattle.smp_kernel.proofs.Primitive.{not_primitive}
+use Rattle.smp_kernel.proofs.Ring.{zero_or}
 use Rattle.smp_prob.specs.Shares.{Shares}
 use Rattle.smp_values.specs.Values as shares
-use Rattle.smp_moves.specs.Ends.{end_of, extent}
-use Rattle.smp_moves.specs.Moves.{Line, Move, IsLine, chosen_extent, chosen_line, entry_of, fraction_of, turned}
+use Rattle.smp_moves.specs.declared.lines.Ratio.{Ratio}
+use Rattle.smp_moves.specs.Ends.{extent, reach}
+use Rattle.smp_moves.specs.Moves.{Line, Move, IsLine, chosen_extent, chosen_line, entry_of, turned}
 use Rattle.smp_moves.specs.Steps.{Finds, FitsAtEnds, FitsOnLine, IsDirection, IsNext}
 use Rattle.smp_moves.specs.Kept.Computed.{IsKnown, direction, next_along}
 use Rattle.smp_moves.specs.Kept.Ends.{IsOver}
@@ -18,19 +21,18 @@ use Rattle.smp_moves.proofs.Entries.{front_apart, turned_line}
 use Rattle.smp_moves.proofs.Products.{HaveSome}
 use Rattle.smp_stratcube.specs.declared.values.Value.{Value}
 use Rattle.smp_stratcube.specs.Units.{Units, share}
-use Rattle.smp_stratcube.specs.Values.{common_of, fractional_count, fractional_units, is_fractional, over_common, taken_over, value}
-use Rattle.smp_stratcube.specs.Values.{value_at}
+use Rattle.smp_stratcube.specs.Values.{common_of, fractional_count, fractional_units, is_fractional, over_common, value}
 use Rattle.smp_stratcube.specs.States.{Flight, IsFlying}
-use Rattle.smp_stratcube.specs.Kept.Computed.{flight_of, moved_values, moves, next}
+use Rattle.smp_stratcube.specs.Kept.Computed.{flight_of, moved_values, next, values_along}
 use Rattle.smp_stratcube.specs.Moves.{IsMovedTo, Stepping, setting_of}
-use Rattle.smp_stratcube.specs.Laws.Taken.{over_fractional, taken_fresh, taken_kept, taken_moved}
+use Rattle.smp_stratcube.specs.Laws.Taken.{is_over, over_fractional}
 use Rattle.smp_stratcube.specs.Laws.Units.{common_some, fractional_in, fresh_divides, front_going, line_divides, order_apart, order_going}
-use Rattle.smp_stratcube.specs.Laws.Ends.{after_along, after_falls, after_fractional, after_values, is_over, moving, still}
+use Rattle.smp_stratcube.specs.Laws.Ends.{after_falls, after_fractional, after_moved}
 
 -- what holds of an end of a line through these units
-pub record IsEnd (units : Units) (f : Flight) (prefix : List ℕ) (line : Line) (t : Fraction) (end : List Value) : Type 0 where
+pub record IsEnd (units : Units) (f : Flight) (prefix : List ℕ) (line : Line) (r : Ratio) (end : List Value) : Type 0 where
   pub through : line.units ≡ prefix
-  pub along : (k : ℕ) → Same (value_at end k) (plus (value_at f.values k) (times t (integer (entry_of line k))))
+  pub moved : IsMovedTo f.values line r end
   pub fewer : (k : ℕ) → is_fractional end k ≡ true → is_fractional f.values k ≡ true
   pub falls : fractional_count end < fractional_count f.values
   pub flight : IsFlying units (flight_of f.fixed end f.rows)
@@ -39,8 +41,8 @@ module _ (units : Units) (f : Flight) (ok : IsFlying units f) where
   pub some_shares : HaveSome (share units) (fractional_units f.values)
   some_shares j l =
       let k : ℕ = get_or (fractional_units f.values) j 0 in
-      let s = ok.are.shares k (omega (arith, fractional_in f.values k (order_going f.values j l), ok.values.count)) in
-      record { num = s.some; den = omega (arith, s.below) }
+      let inside : k < length units.members = omega (arith, fractional_in f.values k (order_going f.values j l), ok.values.count) in
+      record { num = ok.are.drawn k inside; den = omega (arith, ok.are.below_one k inside) }
 
   module _ (w : List ℤ) (finds : Finds (setting_of units) f (fractional_units f.values) (found w)) where
     abbrev prefix : List ℕ
@@ -91,36 +93,36 @@ module _ (units : Units) (f : Flight) (ok : IsFlying units f) where
     -- ---- where it fits
     module _ (narrow : FitsOnLine (setting_of units) f.values w line) where
       pub over : IsOver 1 s
-      over = is_over (length units.members) f.values ok.values den den_some narrow.denominator line line_ok den_divides
+      over = is_over (length units.members) f.values ok.values den den_some narrow.denominator
 
       -- an end of a line through these units
       module _ (l : Line) (l_ok : IsLine s l) (through : l.units ≡ prefix) where
         abbrev end : List Value
-        end = taken_over (moves l) f.values (end_of 1 s l)
+        end = values_along f.values l den (reach s l)
 
         divides : (j : ℕ) → j < length l.units → (value f.values (get_or l.units j 0)).at.den ∣ den
-        divides = subst (λ (us : List ℕ). (j : ℕ) → j < length us → (value f.values (get_or us j 0)).at.den ∣ den) (sym through) den_divides
+        divides = subst (λ (us : List ℕ). (j : ℕ) → j < length us → (value f.values (get_or us j 0)).at.den ∣ den)
+            (sym through) den_divides
 
         moved_to : IsMovedTo f.values l (extent s l) end
-        moved_to = record {
-          are = after_values (length f.values) f.values (record { count = refl; each = ok.values.each }) den den_some
-              narrow.denominator l l_ok divides;
-          at = after_along (length units.members) f.values ok.values den den_some narrow.denominator l l_ok divides;
-          moved = λ k inside ne. ap (λ (v : Value). v.touched) (taken_moved (moves l) f.values (end_of 1 s l) k inside (moving l k ne));
-          kept = λ k none. taken_kept (moves l) f.values (end_of 1 s l) k (still l k none);
-        }
+        moved_to = after_moved (length units.members) f.values ok.values den den_some narrow.denominator l l_ok divides
 
-        is_end : common_of units end [] ≤ 2 ^ 80 → IsEnd units f prefix l (fraction_of (extent s l)) end
+        is_end : common_of units end [] ≤ 2 ^ 80 → IsEnd units f prefix l (extent s l) end
         is_end room = record {
           through = through;
-          along = moved_to.at;
+          moved = moved_to;
           fewer = after_fractional (length units.members) f.values ok.values den den_some narrow.denominator l l_ok divides;
           falls = after_falls (length units.members) f.values ok.values den den_some narrow.denominator l l_ok divides;
           flight = record {
             are = ok.are;
             fixed_is = ok.fixed_is;
-            values = after_values (length units.members) f.values ok.values den den_some narrow.denominator l l_ok divides;
-            fresh = taken_fresh (moves l) f.values (end_of 1 s l) (share units) (length units.members) ok.values.count ok.fresh;
+            values = record { count = moved_to.are.count ∙ ok.values.count; each = moved_to.are.each };
+            fresh = λ k inside fresh. elim (zero_or (entry_of l k)) [
+              | inl none ↦
+                  (let same = moved_to.kept k none in
+                  ap (λ (v : Value). v.at) same ∙ ok.fresh k inside (ap (λ (v : Value). v.touched) (sym same) ∙ fresh))
+              | inr ne ↦ absurd (true≢false (sym (moved_to.moved k (omega (arith, inside, ok.values.count)) ne) ∙ fresh))
+            ];
             narrow = room;
             rows_in = ok.rows_in;
           };
@@ -152,10 +154,10 @@ module _ (units : Units) (f : Flight) (ok : IsFlying units f) where
 
     -- one of them
     abbrev IsOneEnd : Move → Bool → Type 0
-    IsOneEnd x plus = IsEnd units f (prefix k.circuit k.finds) (chosen_line x plus) (fraction_of (chosen_extent x plus))
+    IsOneEnd x plus = IsEnd units f (prefix k.circuit k.finds) (chosen_line x plus) (chosen_extent x plus)
         (moved_values units f.values (chosen_line x plus))
 
-    pub ends : (plus : Bool) → IsOneEnd (next_along (setting_of units) f.values (line k.circuit k.finds)) plus
+    ends : (plus : Bool) → IsOneEnd (next_along (setting_of units) f.values (line k.circuit k.finds)) plus
     ends true = is_end k.circuit k.finds fit (line k.circuit k.finds) (line_ok k.circuit k.finds) refl there.plus
     ends false = is_end k.circuit k.finds fit (turned (line k.circuit k.finds))
         (turned_line (s k.circuit k.finds) (line k.circuit k.finds) (line_ok k.circuit k.finds)) refl there.minus

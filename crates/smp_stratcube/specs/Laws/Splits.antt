@@ -1,7 +1,8 @@
 -- The splits of the cube over all strata are lawful.
-use Rattle.std.proofs.Common.{◌≡◌, ◌≢◌, ℕ, ◌%◌, ◌≤◌, ◌^◌, true, false, List, [], length, arith, refl, subst, inl, inr}
+use Rattle.std.proofs.Common.{◌≡◌, ◌≢◌, ℕ, ◌%◌, ◌≤◌, ◌^◌, true, false, List, [], length, arith, refl, subst}
+use Rattle.std.proofs.Common.{inl, inr}
 use Rattle.std.proofs.lemmas.Bool.{cases_Bool, cases_eq, eqb-false, eqb-true, false_from_ne_true}
-use Rattle.std.proofs.lemmas.Nat.Gcd.{dvd_of_mod-eq-zero, dvd_trans, mod-eq-zero_of_dvd}
+use Rattle.std.proofs.lemmas.Nat.Gcd.{dvd_of_mod-eq-zero, dvd_refl, dvd_trans, mod-eq-zero_of_dvd}
 use Rattle.std.specs.Prelude.{slice_index_or}
 use Prim.Native.Nat.{◌∣◌}
 use Rattle.smp_split.specs.Trees.{LawfulParts, LawfulSplit, LawfulEnd, Lawful}
@@ -11,20 +12,21 @@ use Rattle.smp_moves.specs.Cubes.{flying, landed, pairing, values_in}
 use Rattle.smp_moves.specs.Kept.Computed.{dropped}
 use Rattle.smp_stratcube.specs.declared.values.Value.{Value}
 use Rattle.smp_stratcube.specs.Units.{Units, stratum}
-use Rattle.smp_stratcube.specs.Values.{AreValues, common_of, fractional_count, fractional_units, is_fractional, is_settled}
-use Rattle.smp_stratcube.specs.Values.{stratum_common, value}
+use Rattle.smp_stratcube.specs.Values.{AreValues, common_of, fractional_count, fractional_units, is_fractional, is_settled, stratum_common}
+use Rattle.smp_stratcube.specs.Values.{value}
 use Rattle.smp_stratcube.specs.States.{Balancing, Flight, IsBalancing, IsFlying, IsPairing}
 use Rattle.smp_stratcube.specs.Kept.Computed.{next, moved_values}
 use Rattle.smp_stratcube.specs.Pairs.{step_units}
-use Rattle.smp_stratcube.specs.Kept.Trees.{flight_parts, strat_tree}
-use Rattle.smp_stratcube.specs.Laws.Units.{common_divides, common_some, fractional_in, fresh_divides}
-use Rattle.smp_stratcube.specs.Laws.Units.{order_count, order_place, stratum_most}
+use Rattle.smp_stratcube.specs.Kept.Trees.{flight_parts, strat_tree, tree_by}
+use Rattle.smp_stratcube.specs.Cube as cube
+use Rattle.smp_stratcube.specs.Steps.{of_steps}
+use Rattle.smp_stratcube.specs.Laws.Units.{common_divides, common_some, fractional_in, fresh_divides, order_count, order_place}
+use Rattle.smp_stratcube.specs.Laws.Units.{stratum_most}
 use Rattle.smp_stratcube.specs.Laws.Moves.{move_split}
-use Rattle.smp_stratcube.specs.Laws.Meetings.{step_split}
-use Rattle.smp_stratcube.specs.Laws.Pairs.{step_is}
+use Rattle.smp_stratcube.specs.Laws.Pairs.{step_is, step_split}
 use Rattle.smp_moves.proofs.Computed.{few_by}
 use Rattle.smp_moves.proofs.Flights.{lone_split}
-use Rattle.smp_stratcube.specs.Moves.{setting_of}
+use Rattle.smp_stratcube.specs.Moves.{Stepping, setting_of}
 
 -- ---- where no direction is left
 
@@ -50,29 +52,26 @@ module _ (units : Units) (f : Flight) (ok : IsFlying units f) where
       let state : ℕ = common_of units f.values [] in
       let most = stratum_most units ok.are (length units.members) vs ok.values h in
       let touched = common_divides units ok.are (length units.members) vs ok.values [] in
-      let fresh : (k : ℕ) → is_fractional vs k ≡ true → stratum units k ≡ h → (value vs k).touched ≡ false → (value vs k).at.den ∣ first_h =
+      let fresh : (k : ℕ) → is_fractional vs k ≡ true → stratum units k ≡ h → (value vs k).touched ≡ false
+      → (value vs k).at.den ∣ first_h =
       λ k opened here n. subst (λ (x : ℕ). (value vs k).at.den ∣ slice_index_or units.firsts x 1) here
       (fresh_divides units f ok k (fractional_in vs k opened) n) in
+      let within : (m : ℕ) → 1 ≤ m → first_h ∣ m
+      → ((k : ℕ) → is_fractional vs k ≡ true → stratum units k ≡ h → (value vs k).touched ≡ true
+      → (value vs k).at.den ∣ m)
+      → stratum_common units vs h ≤ m =
+      λ m some d moved. most m some (λ k opened here. elim (cases_Bool (value vs k).touched) [
+        | inl t ↦ moved k opened here t
+        | inr n ↦ dvd_trans (value vs k).at.den (fresh k opened here n) d
+      ]) in
       elim (cases_eq (state % first_h) 0) [
-        | inl e ↦ omega (
-          arith,
-          ok.narrow,
-          most state (common_some units ok.are (length units.members) vs ok.values [])
-              (λ k opened here. elim (cases_Bool (value vs k).touched) [
-                | inl t ↦ (touched k opened t).1
-                | inr n ↦ dvd_trans (value vs k).at.den (fresh k opened here n) (dvd_of_mod-eq-zero first_h e)
-              ]),
-        )
-        | inr ne ↦ omega (
-          arith,
-          (ok.are.firsts h).1,
-          most first_h (ok.are.firsts h).0
-              (λ k opened here. elim (cases_Bool (value vs k).touched) [
-                | inr n ↦ fresh k opened here n
-                | inl t ↦ absurd (ne (mod-eq-zero_of_dvd first_h
-                    (subst (λ (x : ℕ). slice_index_or units.firsts x 1 ∣ state) here (touched k opened t).0)))
-              ]),
-        )
+        | inl e ↦ (let fits = within state (common_some units ok.are (length units.members) vs ok.values [])
+            (dvd_of_mod-eq-zero first_h e)
+            (λ k opened here t. (touched k opened t).1) in omega (arith, ok.narrow, fits))
+        | inr ne ↦ (let fits = within first_h (ok.are.firsts h).0 (dvd_refl first_h)
+            (λ k opened here t. absurd (ne (mod-eq-zero_of_dvd first_h
+            (subst (λ (x : ℕ). slice_index_or units.firsts x 1 ∣ state) here (touched k opened t).0)))) in
+            omega (arith, (ok.are.firsts h).1, fits))
       ]
 
   pub wide_pairing : IsPairing units f.values
@@ -124,3 +123,7 @@ strat_end units s ok done k l =
 
 pub strat_lawful : (units : Units) → Lawful (strat_tree units) (IsBalancing units)
 strat_lawful units = record { split = strat_split units; end = strat_end units }
+
+-- and so are those of the cube, whose steps are these
+pub tree_lawful : (units : Units) → Lawful (cube.strat_tree units) (IsBalancing units)
+tree_lawful units = of_steps (λ (steps : Stepping). Lawful (tree_by steps units) (IsBalancing units)) (strat_lawful units)

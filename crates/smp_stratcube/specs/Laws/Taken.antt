@@ -1,10 +1,10 @@
 -- Values over a common denominator, and values that some units take over from numerators.
-use Rattle.std.proofs.Common.{◌≡◌, ℕ, ◌+◌, ◌*◌, ◌/◌, ◌<◌, ◌≤◌, ◌^◌, Bool, true, false, cond, List, length, get_or, arith, refl, sym, ap}
-use Rattle.std.proofs.Common.{◌∙◌, subst, inl, inr}
+use Rattle.std.proofs.Common.{◌≡◌, ℕ, ◌*◌, ◌/◌, ◌<◌, ◌≤◌, ◌^◌, Bool, true, false, cond, List, length, get_or}
+use Rattle.std.proofs.Common.{arith, refl, sym, ap, ◌∙◌, subst, inl, inr}
 use Rattle.std.proofs.lemmas.Bool.{cases_Bool, cases_lt, cond_both, true≢false}
 use Rattle.std.proofs.lemmas.List.{length-map, get_or-map, get_or_past}
 use Rattle.std.proofs.lemmas.List.FromFn.{get_or-map-range_with_len, length-map-range_with_len}
-use Rattle.std.proofs.Math.Nat.{mul-le-mul_right, mul-div_cancel'}
+use Rattle.std.proofs.Math.Nat.{div-le_of_le-mul, mul-div-le, mul-le-mul_right, mul-div_cancel', one-dvd}
 use Prim.Native.Nat.{◌∣◌}
 use Rattle.smp_frac.specs.Fractions.{Same, over}
 use Rattle.smp_frac.proofs.Over.{over_same}
@@ -17,6 +17,7 @@ use Rattle.smp_values.specs.Values as shares
 use Rattle.smp_moves.specs.declared.lines.Ratio.{Ratio}
 use Rattle.smp_moves.specs.Ends.{lowest}
 use Rattle.smp_moves.specs.Moves.{fraction_of}
+use Rattle.smp_moves.specs.Kept.Ends.{IsOver}
 use Rattle.smp_moves.proofs.LineEnds.{lowest_is}
 use Rattle.smp_moves.proofs.Moved.{same_fractional, same_tests}
 use Rattle.smp_stratcube.specs.declared.values.Value.{Value}
@@ -31,16 +32,10 @@ lowest_same a b p = (let is = lowest_is a b p in over_same (lowest a b).num a (l
 pub lowest_value : (a b : ℕ) (touched : Bool) → 1 ≤ b → a ≤ b → IsValue (record { at = lowest a b; touched = touched })
 lowest_value a b touched p le =
     let is = lowest_is a b p in
-    let m : ℕ = (lowest a b).num in
-    let n : ℕ = (lowest a b).den in
+    let g : ℕ = greatest_common_divisor a b in
     record {
       positive = is.some;
-      most = elim (cases_lt n m) [
-        | inr h ↦ h
-        | inl h ↦ absurd (let e : a * n ≡ m * b = is.same in
-            let f : a * n ≤ b * n = mul-le-mul_right n le in
-            let g : (n + 1) * b ≤ m * b = mul-le-mul_right b (omega arith) in omega (arith, e, f, g, p))
-      ];
+      most = div-le_of_le-mul g (omega (arith, le, mul-div_cancel' g (IsGcd-greatest_common_divisor a b).1));
       reduced = is.reduced;
     }
 
@@ -84,14 +79,17 @@ module _ (n : ℕ) (values : List Value) (are : AreValues n values) (den : ℕ) 
       let is = are.each k in
       let q : ℕ = den / v.at.den in
       let a : v.at.num * q ≤ v.at.den * q = mul-le-mul_right q is.most in
-      let b : v.at.den * q ≤ den = div-times den v.at.den in
-      omega (arith, numer_over k, a, b)
-    where
-      div-times : (a b : ℕ) → b * (a / b) ≤ a
-      div-times a b = grind arith
+      omega (arith, numer_over k, a, mul-div-le den v.at.den)
 
   pub over_values : den ≤ 2 ^ 80 → IsValues n (2 ^ 80) (over_common den values)
   over_values narrow = record { count = length_over; positive = some; narrow = narrow; each = numer_most }
+
+  pub is_over : den ≤ 2 ^ 80 → IsOver 1 (over_common den values)
+  is_over narrow = record {
+    some = omega arith;
+    multiple = one-dvd den;
+    values = record { count = refl; positive = some; narrow = narrow; each = numer_most };
+  }
 
   -- a unit whose denominator divides it has its value
   module _ (k : ℕ) (divides : (value values k).at.den ∣ den) where
@@ -145,7 +143,8 @@ module _ (moves : ℕ → Bool) (values : List Value) (t : Shares) where
   -- a unit that isn't touched there has the value that it had
   pub taken_fresh : (share : ℕ → Ratio) (n : ℕ) → length values ≡ n
       → ((k : ℕ) → k < n → (value values k).touched ≡ false → (value values k).at ≡ share k)
-      → (k : ℕ) → k < n → (value (taken_over moves values t) k).touched ≡ false → (value (taken_over moves values t) k).at ≡ share k
+      → (k : ℕ) → k < n → (value (taken_over moves values t) k).touched ≡ false
+      → (value (taken_over moves values t) k).at ≡ share k
   taken_fresh share n count was k l fresh =
       elim (cases_Bool (moves k)) [
         | inr f ↦ ap (λ (v : Value). v.at) (taken_kept k f) ∙ was k l (ap (λ (v : Value). v.touched) (sym (taken_kept k f)) ∙ fresh)

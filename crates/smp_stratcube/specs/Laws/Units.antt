@@ -1,6 +1,6 @@
 -- The fractional units of a state, and the common denominators of their values.
-use Rattle.std.proofs.Common.{◌≡◌, ◌≢◌, ℕ, zero, suc, ◌+◌, ◌<◌, ◌≤◌, nat_eq, Bool, true, false, List}
-use Rattle.std.proofs.Common.{[], ◌∷◌, ◌++◌, map, take, filter, length, get_or, arith, refl, sym, ◌∙◌, subst, inl, inr}
+use Rattle.std.proofs.Common.{◌≡◌, ◌≢◌, ℕ, zero, suc, ◌+◌, ◌<◌, ◌≤◌, nat_eq, Bool, true, false, List, []}
+use Rattle.std.proofs.Common.{◌∷◌, ◌++◌, map, take, filter, length, get_or, arith, refl, sym, ◌∙◌, subst, inl, inr}
 use Rattle.std.proofs.Common.{le_of_suc-le-suc, suc-le-suc, length-take, get_or-take}
 use Rattle.std.specs.List.{AllPairs, Contains, flat_map, range_with_len}
 use Rattle.std.proofs.lemmas.Bool.{both_ways, cases_Bool, cases_lt, eq-eqb, eqb-true}
@@ -18,8 +18,8 @@ use Rattle.smp_stratcube.specs.Units.{Units, IsUnits, first, stratum}
 use Rattle.smp_stratcube.specs.Values.{AreValues, common_of, fractional_count, fractional_units, is_fractional, nothing, stratum_common}
 use Rattle.smp_stratcube.specs.Values.{value}
 use Rattle.smp_stratcube.specs.States.{Flight, IsFlying}
-use Rattle.smp_moves.proofs.Multiples.{AllSome, AllDivide, multiple_some, multiple_each, some_append, divide_append, some_map}
-use Rattle.smp_moves.proofs.Multiples.{divide_map, map_divide, multiple_most}
+use Rattle.smp_moves.proofs.Multiples.{AllSome, AllDivide, multiple_some, multiple_each, some_append, divide_append, some_map, divide_map}
+use Rattle.smp_moves.proofs.Multiples.{map_divide, multiple_most}
 
 -- ---- elements that pass a test
 
@@ -148,7 +148,8 @@ module _ (units : Units) (are : IsUnits units) (n : ℕ) (values : List Value) (
   abbrev open_in : ℕ → List ℕ
   open_in h = filter (λ k. nat_eq (stratum units k) h) (fractional_units values)
 
-  stratum_each : (h : ℕ) → AllSome (map (λ k. (value values k).at.den) (filter (λ k. nat_eq (stratum units k) h) (fractional_units values)))
+  stratum_each : (h : ℕ) → AllSome (map (λ k. (value values k).at.den)
+      (filter (λ k. nat_eq (stratum units k) h) (fractional_units values)))
   stratum_each h = some_map (λ k. (value values k).at.den) (open_in h) (λ k. (ok.each k).positive)
 
   pub stratum_some : (h : ℕ) → 1 ≤ stratum_common units values h
@@ -183,4 +184,4 @@ pub fresh_divides : (units : Units) (f : Flight) (ok : IsFlying units f) (k : �
     → (value f.values k).touched ≡ false → (value f.values k).at.den ∣ first units k
 fresh_divides units f ok k l fresh =
     let inside : k < length units.members = omega (arith, l, ok.values.count) in
-    subst (λ (r : Ratio). r.den ∣ first units k) (sym (ok.fresh k inside fresh)) (ok.are.shares k inside).divides
+    subst (λ (r : Ratio). r.den ∣ first units k) (sym (ok.fresh k inside fresh)) (ok.are.divides k inside)

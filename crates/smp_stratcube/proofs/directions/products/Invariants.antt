@@ -1,5 +1,4 @@
-use Rattle.std.proofs.Common.{◌≡◌, ℕ, ◌<◌, ◌≤◌, ◌^◌, pos, length}
-use Rattle.std.specs.Int.RustNames.{unsigned_abs}
+use Rattle.std.proofs.Common.{◌≡◌, ℕ, ◌<◌, ◌≤◌, pos, length}
 use Rattle.smp_kernel.specs.Vectors.{entry}
 use Rattle.smp_moves.specs.Steps.{signed}
 use Rattle.smp_stratcube.specs.Kept.Lines.{over, part}
@@ -11,5 +10,4 @@ invariant-loop-place l = record {
   long : length l.products ≡ 17;
   each : (k : ℕ) → k < l.place → entry l.products k ≡ signed (entry l.factors.w k) (over (part l.parts k) l.scale);
   past : (k : ℕ) → l.place ≤ k → entry l.products k ≡ pos 0;
-  small : (k : ℕ) → unsigned_abs (entry l.products k) ≤ 2 ^ 124;
 }

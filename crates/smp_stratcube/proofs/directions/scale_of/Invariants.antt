@@ -1,13 +1,8 @@
-use Rattle.std.proofs.Common.{◌≡◌, map, take}
-use Rattle.smp_moves.specs.{declared.lines.Ratio.{Ratio}, Steps.{common_multiple}}
-use Rattle.smp_moves.proofs.Places.{rest_of}
-use Rattle.smp_stratcube.specs.Kept.Gates.{IsSome, held}
-use Rattle.smp_stratcube.proofs.Gated.{gate_all}
+use Rattle.std.proofs.Common.{◌≡◌, ℕ, Some, Option, fold, take}
+use Rattle.smp_moves.specs.declared.lines.Ratio.{Ratio}
+use Rattle.smp_stratcube.specs.Kept.Gates.{IsSome, gated}
 use Rattle.smp_stratcube.proofs.directions.scale_of.Given as goal
 
--- the scale so far, and the products that are left
+-- the scale so far
 abbrev pub invariant-loop-place : goal.invariant-loop-place
-invariant-loop-place l =
-    (gate_all l.scale (map (λ (r : Ratio). r.den) (rest_of l.number l.parts l.place))
-    ≡ held (common_multiple (map (λ (r : Ratio). r.den) (take l.number l.parts))))
-    × IsSome l.scale
+invariant-loop-place l = (l.scale ≡ fold (λ (m : Option ℕ) (r : Ratio). gated m r.den) (Some 1) (take l.place l.parts)) × IsSome l.scale

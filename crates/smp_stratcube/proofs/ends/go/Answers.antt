@@ -1,19 +1,11 @@
-use Rattle.std.proofs.Common.{SFits, rules, ◌≡◌, ◌+◌, ◌*◌, ◌/◌, ◌<◌, ◌≤◌, ℤ, length, arith, get_or, set, length-set, refl, sym, ap, ap₂, ◌∙◌, subst}
+use Rattle.std.proofs.Common.{SFits, rules, ◌≡◌, ◌*◌, ◌/◌, ◌<◌, ◌≤◌, ℤ, length, arith, get_or, set, length-set, sym, ap, ◌∙◌, subst}
 use Rattle.std.proofs.{lemmas.Int.{to_z-of_z}, lemmas.List.{get_or_read}}
 use mir.Syntax.{w64}
 use Rattle.smp_kernel.specs.Vectors.{entry}
-use Rattle.smp_moves.specs.{Answers.{line_of}, Moves.{entry_at, entry_of}, Kept.Ends.{CanMove}}
-use Rattle.smp_moves.proofs.Places.{rest_all, rest_none, rest_of}
-use Rattle.smp_stratcube.specs.{declared.values.Value.{Value}, Values.{IsValue, nothing, value}, Kept.Moves.{moved_value}}
-use Rattle.smp_stratcube.proofs.{Ending.{can_move}, Going.{entry_left, entry_on, gone_further, stays_left}}
+use Rattle.smp_moves.specs.{Answers.{line_of}, Moves.{entry_of}, Kept.Ends.{CanMove}}
+use Rattle.smp_stratcube.specs.{declared.values.Value.{Value}, Values.{IsValue, nothing, value}, Kept.Computed.{moved_value}}
+use Rattle.smp_stratcube.proofs.{Ending.{can_move}, Going.{entry_on, gone_further, still_there}}
 use Rattle.smp_stratcube.proofs.ends.go.Goals as goal
-
-pub loop-place-init : goal.loop-place-init
-loop-place-init c = record {
-  count = refl;
-  each = λ k l. ap₂ (λ us es. moved_value (value c.args.values.now.items k) c.args.den c.args.reach (entry_at us es k)) (rest_all c.args.line.now.number c.args.line.now.units) (rest_all c.args.line.now.number c.args.line.now.entries);
-  left = λ i l m. refl;
-}
 
 pub moved-requires-clause-value : goal.moved-requires-clause-value
 moved-requires-clause-value c =
@@ -21,7 +13,8 @@ moved-requires-clause-value c =
     let unit = get_or c.args.line.now.units j 0 in
     let inside = c.requires.inside j (omega arith) in
     let is = get_or_read c.loop-place.values.items unit c.index-value.result.now (omega (arith, inside, c.loop-place.invariant.count)) c.index-value.ensures nothing in
-    subst IsValue (sym (is ∙ c.loop-place.invariant.left j (omega arith) (omega arith))) (c.requires.along.are.each unit)
+    let still = still_there c.args.line.now.number c.args.line.now.units c.args.line.now.entries c.requires.along.padded.places (omega (arith, c.requires.along.padded.short)) c.requires.along.is_line.order.distinct j (omega arith) c.args.den c.args.reach c.loop-place.values.items c.args.values.now.items c.loop-place.invariant.each inside in
+    subst IsValue (sym (is ∙ still)) (c.requires.along.are.each unit)
 
 pub moved-requires-clause-can : goal.moved-requires-clause-can
 moved-requires-clause-can c =
@@ -30,7 +23,8 @@ moved-requires-clause-can c =
     let unit = get_or line.units j 0 in
     let inside = c.requires.inside j (omega arith) in
     let is = get_or_read c.loop-place.values.items unit c.index-value.result.now (omega (arith, inside, c.loop-place.invariant.count)) c.index-value.ensures nothing in
-    let old : c.index-value.result.now ≡ value c.args.values.now.items unit = is ∙ c.loop-place.invariant.left j (omega arith) (omega arith) in
+    let still = still_there line.number line.units line.entries c.requires.along.padded.places (omega (arith, c.requires.along.padded.short)) c.requires.along.is_line.order.distinct j (omega arith) c.args.den c.args.reach c.loop-place.values.items c.args.values.now.items c.loop-place.invariant.each inside in
+    let old : c.index-value.result.now ≡ value c.args.values.now.items unit = is ∙ still in
     let narrow : SFits w64 (entry line.entries j) = search rules in
     let can = can_move (length c.args.values.now.items) c.args.values.now.items line c.args.den c.args.reach c.requires.along unit in
     let at : entry_of (line_of line) unit ≡ entry line.entries j = entry_on line c.requires.along.padded.places (omega (arith, c.requires.along.padded.short)) c.requires.along.is_line.order.distinct j (omega arith) in
@@ -56,22 +50,6 @@ loop-place-preserved c =
     record {
       count = omega (arith, length-set {A = Value}, c.loop-place.invariant.count);
       each = λ k l.
-          ap (λ (v : Value). moved_value (value (set now unit v) k) c.args.den c.args.reach (entry_left line.number line.units line.entries (j + 1) k)) new
-          ∙ gone_further line.number line.units line.entries lu le distinct j (omega arith) c.args.den c.args.reach now here k
-          ∙ c.loop-place.invariant.each k l;
-      left = λ i l m.
-          ap (λ (v : Value). value (set now unit v) (get_or line.units i 0)) new
-          ∙ stays_left line.number line.units line.entries lu le distinct j (omega arith) c.args.den c.args.reach now here c.args.values.now.items c.loop-place.invariant.left i l m;
-    }
-
-pub returns : goal.returns
-returns c =
-    let line = c.args.line.now in
-    let now = c.loop-place.values.items in
-    let done : c.loop-place.place ≡ line.number = omega arith in
-    record {
-      count = c.loop-place.invariant.count;
-      each = λ k l.
-          sym (ap₂ (λ us es. moved_value (value now k) c.args.den c.args.reach (entry_at us es k)) (ap (rest_of line.number line.units) done ∙ rest_none line.number line.units) (ap (rest_of line.number line.entries) done ∙ rest_none line.number line.entries))
-          ∙ c.loop-place.invariant.each k l;
+          ap (λ (v : Value). value (set now unit v) k) new
+          ∙ gone_further line.number line.units line.entries lu le distinct j (omega arith) c.args.den c.args.reach now c.args.values.now.items c.loop-place.invariant.each inside here k l;
     }

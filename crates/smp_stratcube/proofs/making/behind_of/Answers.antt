@@ -1,15 +1,7 @@
-use Rattle.std.proofs.Common.{◌≡◌, ◌+◌, ◌-◌, ℕ, [], ◌∷◌, ◌++◌, length, get_or, arith, subst, length-append}
+use Rattle.std.proofs.Common.{◌≡◌, ◌+◌, ◌-◌, ℕ, [], ◌∷◌, ◌++◌, length, arith, subst, length-append}
 use Rattle.smp_stratcube.specs.Kept.Behind.{IsBehind}
 use Rattle.smp_stratcube.proofs.Stored.{more_each}
 use Rattle.smp_stratcube.proofs.making.behind_of.Goals as goal
-
-pub behind-last-requires-clause-next : goal.behind-last-requires-clause-next
-behind-last-requires-clause-next c =
-    λ l.
-    let n = length c.args.members.now in
-    let back = c.loop-back.back in
-    let at : n - back ≡ n - 1 - back + 1 = omega (arith, c.loop-back-test.true) in
-    subst (λ (k : ℕ). IsBehind c.args.members.now k c.loop-back.last) at (c.loop-back.invariant.again (omega (arith, l)))
 
 pub loop-back-preserved : goal.loop-back-preserved
 loop-back-preserved c =
@@ -24,15 +16,3 @@ loop-back-preserved c =
       each = λ k l. more_each (λ k x. IsBehind members (n - 1 - k) x) all 0 c.behind-last.result back i.count i.each c.behind-last.ensures k l;
       again = λ l. (let at : n - 1 - back ≡ n - (back + 1) = omega (arith, c.loop-back-test.true) in subst (λ (k : ℕ). IsBehind members k c.behind-last.result) at c.behind-last.ensures);
     })
-
-pub returns : goal.returns
-returns c =
-    let n = length c.args.members.now in
-    let i = c.loop-back.invariant in
-    let whole : c.loop-back.back ≡ n = omega (arith, c.loop-back.auto.back-end, c.loop-back-test.false) in
-    record {
-      count = omega (arith, i.count, whole);
-      each = λ k l.
-          (let at : n - 1 - (n - 1 - k) ≡ k = omega (arith, l) in
-          subst (λ (u : ℕ). IsBehind c.args.members.now u (get_or c.loop-back.all.items (n - 1 - k) 0)) at (i.each (n - 1 - k) (omega (arith, l, whole))));
-    }

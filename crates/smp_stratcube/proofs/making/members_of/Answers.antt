@@ -1,10 +1,10 @@
 use Rattle.std.proofs.Common.{◌≡◌, ℕ, ◌+◌, ◌≤◌, List, [], ◌∷◌, ◌++◌, map, take, drop, length, get_or, arith, sym, ap, ap₂, ◌∙◌, subst, append_assoc, take_all}
 use Rattle.std.specs.List.{range_with_len}
-use Rattle.std.proofs.lemmas.List.{append-nil, get_or_read, take_more}
+use Rattle.std.proofs.lemmas.List.{append-nil, drop_all, get_or_read, take_more}
 use Rattle.smp_kernel.proofs.Lists.{map_last}
 use Rattle.smp_stratcube.specs.{declared.units.Member.{Member}, Layers.{Layer, no_layer, variables}, Kept.Layers.{width, first_of}}
 use Rattle.smp_stratcube.specs.Units.{member_of, members_from}
-use Rattle.smp_stratcube.proofs.Stored.{members_step, none_left}
+use Rattle.smp_stratcube.proofs.Stored.{members_step}
 use Rattle.smp_stratcube.proofs.making.members_of.Goals as goal
 
 pub push_members-requires-clause-rows : goal.push_members-requires-clause-rows
@@ -40,6 +40,6 @@ returns c =
     let layers = c.args.layers.now in
     let i = c.loop-stratum.stratum in
     let items = c.loop-stratum.members.items in (
-      sym (append-nil items) ∙ sym (ap (λ ls. items ++ members_from (length layers) i ls) (none_left layers i c.loop-stratum-test.false)) ∙ c.loop-stratum.invariant.all,
+      sym (append-nil items) ∙ sym (ap (λ ls. items ++ members_from (length layers) i ls) (drop_all i layers c.loop-stratum-test.false)) ∙ c.loop-stratum.invariant.all,
       c.loop-stratum.invariant.firsts ∙ ap (map first_of) (take_all i layers c.loop-stratum-test.false),
     )

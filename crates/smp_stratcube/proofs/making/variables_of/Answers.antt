@@ -1,6 +1,6 @@
-use Rattle.std.proofs.{Common.{◌≡◌, ◌+◌, ◌≤◌, drop, take, length, arith, sym, ap, ◌∙◌}, lemmas.List.{length-map}}
+use Rattle.std.proofs.{Common.{◌≡◌, ◌+◌, ◌≤◌, drop, take, length, arith, sym, ap, ◌∙◌}, lemmas.List.{drop_all, length-map}}
 use Rattle.smp_stratcube.specs.{Layers.{Layer, variables}, Kept.Layers.{width}}
-use Rattle.smp_stratcube.proofs.{Stored.{first_has, first_none, here_of, none_left}, making.variables_of.Goals.{After-len}}
+use Rattle.smp_stratcube.proofs.{Stored.{first_has, first_none, here_of}, making.variables_of.Goals.{After-len}}
 use Rattle.smp_stratcube.proofs.making.variables_of.Goals as goal
 
 -- how many values a layer has
@@ -27,4 +27,4 @@ loop-stratum-preserved c =
     c.loop-stratum.invariant ∙ ap variables (here_of layers i layer c.loop-stratum-test.true c.index-layers-stratum.is) ∙ first_none layer (drop (i + 1) layers) empty
 
 pub returns : goal.returns
-returns c = sym (c.loop-stratum.invariant ∙ ap variables (none_left c.args.layers.now c.loop-stratum.stratum c.loop-stratum-test.false))
+returns c = sym (c.loop-stratum.invariant ∙ ap variables (drop_all c.loop-stratum.stratum c.args.layers.now c.loop-stratum-test.false))

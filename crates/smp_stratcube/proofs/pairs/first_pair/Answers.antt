@@ -1,21 +1,11 @@
 use Rattle.std.proofs.Common.{arith, ◌≡◌, ◌≢◌, ◌+◌, ◌-◌, Some, get_or, sym, ap, ◌∙◌}
 use Rattle.smp_moves.proofs.Places.{rest_all, rest_of}
 use Rattle.smp_stratcube.specs.{Units.{stratum}, Pairs.{first_pair}}
-use Rattle.smp_stratcube.proofs.{Ahead.{front_inside}, Pairing.{pair_here, pair_next, pair_none, pair_of_front}}
+use Rattle.smp_stratcube.proofs.Pairing.{pair_here, pair_next, pair_none, pair_of_front}
 use Rattle.smp_stratcube.proofs.pairs.first_pair.Goals as goal
 
 pub loop-place-init : goal.loop-place-init
 loop-place-init c = ap (first_pair c.args.units.now) (rest_all c.args.front.now.number c.args.front.now.units)
-
-pub stratum-requires : goal.stratum-requires
-stratum-requires c =
-    let b = front_inside c.args.values.now c.args.front.now c.requires.front (omega (arith, c.requires.front.short)) (c.loop-place.place - 1) (omega arith) in
-    omega (arith, b, c.requires.count)
-
-pub stratum-requires-in-loop-place : goal.stratum-requires-in-loop-place
-stratum-requires-in-loop-place c =
-    let b = front_inside c.args.values.now c.args.front.now c.requires.front (omega (arith, c.requires.front.short)) c.loop-place.place (omega arith) in
-    omega (arith, b, c.requires.count)
 
 pub returns-then-stratum : goal.returns-then-stratum
 returns-then-stratum c =

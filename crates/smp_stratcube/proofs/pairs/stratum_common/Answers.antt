@@ -1,63 +1,41 @@
-use Rattle.std.proofs.Common.{arith, ◌≡◌, ◌+◌, ◌≤◌, ◌^◌, ℕ, List, get_or, sym, ap, ◌∙◌, subst}
+use Rattle.std.proofs.Common.{arith, ◌≡◌, ◌+◌, ◌≤◌, ◌^◌, ℕ, List, take, sym, ap, ap₂, ◌∙◌, subst}
 use Rattle.smp_prob.specs.Given.{least_multiple}
-use Rattle.smp_moves.proofs.{Places.{rest_all, rest_none, rest_of}, Multiples.{from, least}}
-use Rattle.smp_stratcube.specs.{declared.values.Value.{Value}, Values.{value}, declared.fronts.Front.{Front}, Units.{Units}}
-use Rattle.smp_stratcube.specs.{Kept.Fronts.{front_units}, Kept.Pairs.{common_in, dens_in}}
-use Rattle.smp_stratcube.proofs.{Ahead.{front_inside}, Behinds.{have_common, some_behind}}
-use Rattle.smp_stratcube.proofs.Pairing.{dens_here, dens_past, dens_some, front_narrow, front_some, most_of, none_on, other_on, some_on}
+use Rattle.smp_stratcube.specs.{declared.values.Value.{Value}, declared.fronts.Front.{Front}, Units.{Units}}
+use Rattle.smp_stratcube.specs.{Kept.Fronts.{front_units}, Kept.Pairs.{common_in}}
+use Rattle.smp_stratcube.proofs.Behinds.{have_common, some_behind}
+use Rattle.smp_stratcube.proofs.Pairing.{common_here, common_most, common_past, common_some, none_on, other_on, some_on}
 use Rattle.smp_stratcube.proofs.pairs.stratum_common.Goals as goal
 use Rattle.smp_stratcube.proofs.pairs.stratum_common.Goals.{then-stratum, else-stratum, else-front-len-via-then-front-len+else-stratum-2, else-front-len-via-else-front-len}
 
-pub loop-place-init : goal.loop-place-init
-loop-place-init c =
-    (ap (λ ks. from 1 (dens_in c.args.units.now c.args.values.now c.args.stratum ks)) (rest_all c.args.front.now.number c.args.front.now.units), omega arith)
-
-pub stratum-requires : goal.stratum-requires
-stratum-requires c =
-    let b = front_inside c.args.values.now c.args.front.now c.requires.front (omega (arith, c.requires.front.short)) c.loop-place.place (omega arith) in
-    omega (arith, b, c.requires.pairing.values.count)
-
-pub at-requires : goal.at-requires
-at-requires c = front_inside c.args.values.now c.args.front.now c.requires.front (omega (arith, c.requires.front.short)) c.loop-place.place (omega arith)
-
 pub least_multiple-common-requires-clause-within : goal.least_multiple-common-requires-clause-within
 least_multiple-common-requires-clause-within c =
-    let m = c.loop-place.common in
-    let unit = get_or c.args.front.now.units c.loop-place.place 0 in
-    let d : ℕ = (value c.args.values.now unit).at.den in
-    let ds : List ℕ = dens_in c.args.units.now c.args.values.now c.args.stratum (rest_of c.args.front.now.number c.args.front.now.units (c.loop-place.place + 1)) in
-    let total : from (least_multiple m d) ds ≡ _ = sym (dens_here c.args.units.now c.args.values.now c.requires.pairing c.args.front.now c.requires.front (omega (arith, c.requires.front.short)) c.args.stratum m c.loop-place.place (omega arith) (sym c.stratum.ensures ∙ c.if-stratum.true)) ∙ c.loop-place.invariant.0 in
-    let some = (least m d c.loop-place.invariant.1 (c.requires.pairing.values.each unit).positive).common.positive in
-    let most = most_of (least_multiple m d) ds some (dens_some c.args.units.now c.args.values.now c.requires.pairing c.args.front.now c.requires.front (omega (arith, c.requires.front.short)) c.args.stratum (rest_of c.args.front.now.number c.args.front.now.units (c.loop-place.place + 1))) in
-    let narrow = front_narrow c.args.units.now c.args.values.now c.requires.pairing c.args.front.now c.requires.front (omega (arith, c.requires.front.short)) c.args.stratum in
-    subst (λ (v : Value). least_multiple c.loop-place.common v.at.den ≤ 2 ^ 80) (sym c.at.ensures) (omega (arith, most, total, narrow))
+    let here = common_here c.args.units.now c.args.values.now c.requires.pairing c.args.front.now c.requires.front (omega (arith, c.requires.front.short)) c.args.stratum c.loop-place.place (omega arith) (sym c.stratum.ensures ∙ c.if-stratum.true) in
+    subst (λ (n : ℕ). n ≤ 2 ^ 80) (here ∙ ap₂ (λ (m : ℕ) (v : Value). least_multiple m v.at.den) (sym c.loop-place.invariant.0) (sym c.at.ensures))
+    (common_most c.args.units.now c.args.values.now c.requires.pairing c.args.front.now c.requires.front (omega (arith, c.requires.front.short)) c.args.stratum (c.loop-place.place + 1) (omega arith))
 
 pub loop-place-preserved : goal.loop-place-preserved
 loop-place-preserved c =
-    let unit = get_or c.args.front.now.units c.loop-place.place 0 in
-    let ds : List ℕ = dens_in c.args.units.now c.args.values.now c.args.stratum (rest_of c.args.front.now.number c.args.front.now.units (c.loop-place.place + 1)) in
+    let units = c.args.units.now in
+    let values = c.args.values.now in
+    let us = c.args.front.now.units in
+    let j = c.loop-place.place in
+    let some = common_some units values c.requires.pairing c.args.front.now c.requires.front (omega (arith, c.requires.front.short)) c.args.stratum (take (j + 1) us) in
     elim c.if-stratum.branch [
       | then-stratum w ↦
-          (let is : c.if-stratum.common ≡ least_multiple c.loop-place.common (value c.args.values.now unit).at.den =
-          w.common-is ∙ w.least_multiple-common.ensures ∙ ap (λ (v : Value). least_multiple c.loop-place.common v.at.den) w.at.ensures in (
-            ap (λ m. from m ds) is ∙ sym (dens_here c.args.units.now c.args.values.now c.requires.pairing c.args.front.now c.requires.front (omega (arith, c.requires.front.short)) c.args.stratum c.loop-place.common c.loop-place.place (omega arith) (sym c.stratum.ensures ∙ w.if-stratum.true)) ∙ c.loop-place.invariant.0,
-            subst (λ m. 1 ≤ m) (sym is) (least c.loop-place.common (value c.args.values.now unit).at.den c.loop-place.invariant.1 (c.requires.pairing.values.each unit).positive).common.positive,
-          ))
-      | else-stratum w ↦ (
-        ap (λ m. from m ds) w.common-is
-            ∙ sym (dens_past c.args.units.now c.args.values.now c.requires.pairing c.args.front.now c.requires.front (omega (arith, c.requires.front.short)) c.args.stratum c.loop-place.common c.loop-place.place (omega arith) (λ e. w.if-stratum.false (c.stratum.ensures ∙ e))) ∙ c.loop-place.invariant.0,
-        subst (λ m. 1 ≤ m) (sym w.common-is) c.loop-place.invariant.1,
-      )
+          (let is : c.if-stratum.common ≡ common_in units values c.args.stratum (take (j + 1) us) =
+          w.common-is ∙ w.least_multiple-common.ensures ∙ ap₂ (λ (m : ℕ) (v : Value). least_multiple m v.at.den) c.loop-place.invariant.0 w.at.ensures
+          ∙ sym (common_here units values c.requires.pairing c.args.front.now c.requires.front (omega (arith, c.requires.front.short)) c.args.stratum j (omega arith) (sym c.stratum.ensures ∙ w.if-stratum.true)) in
+          (is, rw is some))
+      | else-stratum w ↦
+          (let is : c.if-stratum.common ≡ common_in units values c.args.stratum (take (j + 1) us) =
+          w.common-is ∙ c.loop-place.invariant.0
+          ∙ sym (common_past units values c.requires.pairing c.args.front.now c.requires.front (omega (arith, c.requires.front.short)) c.args.stratum j (omega arith) (λ e. w.if-stratum.false (c.stratum.ensures ∙ e))) in
+          (is, rw is some))
     ]
 
 -- the units of the front are all looked at
-done : (units : Units) (values : List Value) (h : ℕ) (front : Front) (common place : ℕ) → place ≡ front.number → from common (dens_in units values h (rest_of front.number front.units place)) ≡ common_in units values h (front_units front) → common ≡ common_in units values h (front_units front)
-done units values h front common place e is =
-    sym (ap (λ ks. from common (dens_in units values h ks)) (ap (rest_of front.number front.units) e ∙ rest_none front.number front.units)) ∙ is
-
-pub least_multiple-requires-clause-a : goal.least_multiple-requires-clause-a
-least_multiple-requires-clause-a c =
-    subst (λ m. 1 ≤ m) (sym (done c.args.units.now c.args.values.now c.args.stratum c.args.front.now c.loop-place.common c.loop-place.place (omega arith) c.loop-place.invariant.0)) (front_some c.args.units.now c.args.values.now c.requires.pairing c.args.front.now c.requires.front (omega (arith, c.requires.front.short)) c.args.stratum)
+done : (units : Units) (values : List Value) (h : ℕ) (front : Front) (common place : ℕ) → place ≡ front.number → common ≡ common_in units values h (take place front.units) → common ≡ common_in units values h (front_units front)
+done units values h front common place e is = is ∙ ap (λ k. common_in units values h (take k front.units)) e
 
 pub least_multiple-requires-clause-b : goal.least_multiple-requires-clause-b
 least_multiple-requires-clause-b c = some_behind c.args.units.now.members (have_common c.args.units.now c.requires.pairing.are) c.args.front.now.place c.behind.result c.behind.ensures

@@ -1,10 +1,7 @@
-use Rattle.std.proofs.Common.{◌≡◌, ◌≤◌}
-use Rattle.smp_moves.proofs.{Places.{rest_of}, Multiples.{from}}
-use Rattle.smp_stratcube.specs.{Kept.Fronts.{front_units}, Kept.Pairs.{common_in, dens_in}}
+use Rattle.std.proofs.Common.{◌≡◌, ◌≤◌, take}
+use Rattle.smp_stratcube.specs.Kept.Pairs.{common_in}
 use Rattle.smp_stratcube.proofs.pairs.stratum_common.Given as goal
 
--- the common denominator so far, and the units that are left
+-- the common denominator so far
 abbrev pub invariant-loop-place : goal.invariant-loop-place
-invariant-loop-place l =
-    (from l.common (dens_in l.units l.values l.stratum (rest_of l.front.number l.front.units l.place)) ≡ common_in l.units l.values l.stratum (front_units l.front))
-    × (1 ≤ l.common)
+invariant-loop-place l = (l.common ≡ common_in l.units l.values l.stratum (take l.place l.front.units)) × (1 ≤ l.common)

@@ -2,7 +2,7 @@ use Rattle.std.proofs.Common.{ℕ, ◌<◌, ◌≤◌, ◌^◌, arith, get_or, l
 use Rattle.smp_moves.specs.{declared.lines.Line.{Line}, declared.reaches.Reach.{Reach}, Answers.{IsPadded}, Kept.Ends.{HasSmallEntries}}
 use Rattle.smp_stratcube.specs.{Units.{IsUnits}, Values.{IsValue, value}, Kept.Lines.{AreInside}, Kept.Computed.{flight_of}}
 use Rattle.smp_stratcube.specs.Kept.Moves.{IsAlong}
-use Rattle.smp_stratcube.proofs.{Ahead.{front_inside}, Ending.{some_size}, Parts.{product_fits}}
+use Rattle.smp_stratcube.proofs.{Ending.{some_size}}
 use Rattle.smp_stratcube.proofs.Stepped.{back_inside, backward, den_narrow, forth, is_move_of, line_inside, no_denominator, no_minus, no_plus, reaches_some}
 use Rattle.smp_stratcube.proofs.steps.step_along.Goals as goal
 use Rattle.smp_stratcube.proofs.steps.step_along.Goals.{After-reach_along-down, After-reach_along-up, In-Some}
@@ -29,7 +29,7 @@ can_reach c along padded small inside = record {
 
 pub reach_along-up-requires : goal.reach_along-up-requires
 reach_along-up-requires c =
-    can_reach (goal.at.reach_along-up-requires c).In-Some c.args.line c.requires.line.is_line.padded c.requires.line.is_line.small
+    can_reach (goal.at.reach_along-up-requires c).In-Some c.args.line c.requires.line.is_line.holds.padded c.requires.line.is_line.holds.small
     (λ j l. (let b = line_inside c.args.units.now (flight_of c.args.units.now c.args.values.now c.args.rows) c.requires.flying c.args.line c.requires.line j l in omega (arith, b, c.requires.flying.values.count)))
 
 pub reach_along-down-requires : goal.reach_along-down-requires
@@ -53,7 +53,7 @@ can_fit : (c : In-Some) (line : Line) (r : Reach) → IsAlong (length c.args.uni
 can_fit c line r along most = record {
   are = c.requires.flying.are;
   along = along;
-  inside = record { short = c.requires.front.short; inside = λ j l. front_inside c.args.values.now c.args.front.now c.requires.front (omega (arith, c.requires.front.short)) j l };
+  inside = record { short = c.requires.front.short; inside = c.requires.front.inside };
   size = (some_size (length c.args.units.now.members) c.args.values.now line c.in-Some.den r along, most);
 }
 
@@ -72,14 +72,6 @@ end_fits-requires-in-Some c =
 pub returns-then-not-end_fits-2 : goal.returns-then-not-end_fits-2
 returns-then-not-end_fits-2 c =
     no_minus c.args.units.now (flight_of c.args.units.now c.args.values.now c.args.rows) c.requires.flying c.args.front.now c.requires.front (omega (arith, c.requires.front.short)) c.args.line c.requires.line c.in-Some.den c.in-Some.ensures c.turned-back.result c.turned-back.ensures.line c.turned-back.ensures.padded c.turned-back.ensures.small c.reach_along-down.result c.reach_along-down.ensures.is (sym c.end_fits-in-Some.ensures ∙ c.if-not-end_fits-2.true)
-
-pub overflow_mul-down : goal.overflow_mul-down
-overflow_mul-down c =
-    (let m = product_fits c.reach_along-down.result.left c.reach_along-up.result.size c.reach_along-down.ensures.bounds.0 c.reach_along-up.ensures.bounds.1 in omega (arith, m))
-
-pub overflow_mul-up : goal.overflow_mul-up
-overflow_mul-up c =
-    (let m = product_fits c.reach_along-up.result.left c.reach_along-down.result.size c.reach_along-up.ensures.bounds.0 c.reach_along-down.ensures.bounds.1 in omega (arith, m))
 
 pub lowest-weights-requires : goal.lowest-weights-requires
 lowest-weights-requires c =

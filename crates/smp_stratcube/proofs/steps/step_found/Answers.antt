@@ -1,12 +1,8 @@
 use Rattle.std.proofs.Common.{arith}
 use Rattle.smp_kernel.specs.Searches.{none, too_wide}
-use Rattle.smp_stratcube.proofs.{Ahead.{front_inside}, Stepped.{found_fewer, found_line, found_small, found_some, found_wide, step_found}}
+use Rattle.smp_stratcube.proofs.Stepped.{found_fewer, found_line, found_small, found_some, found_wide, step_found}
 use Rattle.smp_stratcube.specs.Kept.Computed.{flight_of}
 use Rattle.smp_stratcube.proofs.steps.step_found.Goals as goal
-
-pub direction-requires-clause-inside : goal.direction-requires-clause-inside
-direction-requires-clause-inside c =
-    record { short = c.requires.front.short; inside = λ j l. (let b = front_inside c.args.values.now c.args.front.now c.requires.front (omega (arith, c.requires.front.short)) j l in omega (arith, b, c.requires.flying.values.count)) }
 
 pub direction-requires-clause-fewer : goal.direction-requires-clause-fewer
 direction-requires-clause-fewer c =

@@ -4,7 +4,7 @@ use Rattle.smp_stratcube.specs.{declared.values.Value.{Value}, Units.{IsUnits, U
 use Rattle.smp_stratcube.specs.{Balances.{IsBalanced}, Counts.{HasCounts}, Method.{method_of}, Kept.Computed.{flight_of}}
 use Rattle.smp_split.specs.Methods.{HasMeans}
 use Rattle.smp_stratcube.specs.Kept.Fronts.{IsFront}
-use Rattle.smp_stratcube.proofs.{Balances.{started_flying}, BySteps.{counts_so, is_balanced}, Keeping.{step_there}}
+use Rattle.smp_stratcube.proofs.{Balances.{started_flying, strat_balanced}, Keeping.{step_there}, WholeStrata.{has_counts}}
 use Rattle.smp_stratcube.proofs.Starting.{start_ahead, strat_means}
 use Rattle.smp_stratcube.proofs.design.StratCube.start.Goals as goal
 
@@ -32,8 +32,8 @@ returns-clause-means c =
 
 pub returns-clause-counts : goal.returns-clause-counts
 returns-clause-counts c =
-    subst (HasCounts c.args.self.now) (sym (returns-clause-state c)) (counts_so c.args.self.now (subst IsUnits c.self.view_is c.self.invariant))
+    subst (HasCounts c.args.self.now) (sym (returns-clause-state c)) (has_counts c.args.self.now (subst IsUnits c.self.view_is c.self.invariant))
 
 pub returns-clause-balanced : goal.returns-clause-balanced
 returns-clause-balanced c =
-    subst (IsBalanced c.args.self.now) (sym (returns-clause-state c)) (is_balanced c.args.self.now (subst IsUnits c.self.view_is c.self.invariant))
+    subst (IsBalanced c.args.self.now) (sym (returns-clause-state c)) (strat_balanced c.args.self.now (subst IsUnits c.self.view_is c.self.invariant))
