@@ -4,8 +4,8 @@ use Rattle.smp_values.specs.Values.{fractional_units}
 use Rattle.smp_moves.proofs.Entries.{frame_order}
 use Rattle.smp_flight.specs.{States.{AreFirst, IsFlight, Tracked, Units}, Moves.{setting_of}, Steps.{next}, Kept.States.{IsFound}}
 use Rattle.smp_moves.specs.Steps.{IsNext}
-use Rattle.smp_flight.specs.{Answers.{Allows, IsFirstMove, IsMoveOf, answer_of, IsKeptIn}, declared.steps.Next.{Next as Answer}}
-use Rattle.smp_flight.specs.declared.steps.Next.TheVariants as answers
+use Rattle.smp_flight.specs.{Answers.{Allows, Answer, IsFirstMove, IsMoveOf, answer_of, IsKeptIn}}
+use Rattle.smp_moves.specs.declared.steps.Next.TheVariants as answers
 use Rattle.smp_flight.specs.Laws.NextProperties.{next_is, next_on_front}
 use Rattle.smp_flight.proofs.Searched.{allowed, allowed_first, front_searched}
 

@@ -9,9 +9,9 @@ use Rattle.smp_moves.specs.Kept.Computed.{direction_fits, direction_on, next_by,
 use Rattle.smp_values.specs.Values.{fractional_units}
 use Rattle.smp_values.proofs.Units.{fractional_units_length}
 use Rattle.smp_flight.specs.{States.{AreFirst, Flight, IsFlight, Tracked, Units, columns_of}, Steps.{next_on, next}, Moves.{setting_of}}
-use Rattle.smp_flight.specs.{Kept.Ends.{next_along}, declared.steps.Next.{Next as Answer}}
+use Rattle.smp_flight.specs.{Kept.Ends.{next_along}, Answers.{Answer}}
 use Rattle.smp_flight.specs.{Answers.{Allows, AreSearched, IsFirstMove, IsMoveOf, answer_of, move_of, IsKeptIn}, Laws.Firsts.{from_each}}
-use Rattle.smp_flight.specs.declared.steps.Next.TheVariants as answers
+use Rattle.smp_moves.specs.declared.steps.Next.TheVariants as answers
 use Rattle.smp_moves.proofs.{Entries.{frame_order, order_front}, Computed.{circuit_within, places_prefix, places_small, places_some, places_through, places_wide}}
 use Rattle.smp_flight.proofs.Fitting.{moves_within}
 use Rattle.smp_flight.specs.{Laws.WholeOrders.{independent_in_frame}, Laws.NextProperties.{independent_columns, known, next_on_front}}

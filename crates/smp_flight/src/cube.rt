@@ -4,13 +4,14 @@ ghost use Rattle.std.specs.Prelude.{◌≡◌, ◌↔◌, IfOk, length, true};
 ghost use Rattle.smp_prob.specs.Requests.{IsRequest};
 ghost use Rattle.smp_split.specs.Methods.{Starts};
 ghost use Rattle.smp_values.specs.Starts.{IsRequested};
-ghost use Rattle.smp_moves.specs.{Cubes.{left_in}, Kept.Phases.{balancing_of}};
-ghost use Rattle.smp_flight.specs.{Requests.{AreValues, units_of}, States.{Units}, Landings.{IsBalanced}, Narrow.{IsNarrow}};
-ghost use Rattle.smp_flight.specs.{Selections.{Balancing, starting}, Cube.{cube_of}, CubeMethod.{method_of}, Kept.CubeStates.{IsKept}};
+ghost use Rattle.smp_moves.specs.Cubes.{left_in};
+ghost use Rattle.smp_flight.specs.{Requests.{AreValues, units_of}, States.{Units}, Landings.{IsBalanced, balancing_in}, Narrow.{IsNarrow}};
+ghost use Rattle.smp_flight.specs.{Selections.{Balancing, IsBalancing, starting}, Cube.{cube_of, cube_tree}, CubeMethod.{method_of}};
+ghost use Rattle.smp_flight.specs.Kept.CubeStates.{Finds, IsKept};
 
-use crate::{Landing, Next, Shape, fly, is_narrow, look, step};
+use crate::{Landing, Move, Shape, fly, is_narrow, look, step};
 use smp_frac::{NoMemory, Numbers};
-use smp_moves::Phase;
+use smp_moves::{Course, Next, Phase};
 use smp_prob::Request;
 use smp_split::{Kind, Splitting};
 use std::alloc::Global;
@@ -45,7 +46,7 @@ pub struct CubeState {
 impl Model for CubeState {
     ghost Value = { Balancing };
 
-    ghost view = { λ a. balancing_of a.landing.phase a.landing.flight.flight a.landing.steps a.landing.left };
+    ghost view = { λ a. balancing_in a.landing };
 
     ghost invariant = { λ a. IsKept a.landing.phase a.landing.flight a.landing.room };
 }
@@ -97,6 +98,61 @@ impl Cube {
     }
 }
 
+impl Course for Landing {
+    type Units = Shape;
+
+    type State = CubeState;
+
+    type Move = Move;
+
+    ghost tree = { cube_tree };
+
+    ghost seen = { balancing_in };
+
+    ghost belongs = { IsBalancing };
+
+    ghost is_kept = { λ l. IsKept l.phase l.flight l.room };
+
+    ghost finds = { Finds };
+
+    fn found(&self, shape: &Shape) -> Option<Next<Move>> {
+        match self.phase {
+            Phase::Flying => Some(step(shape, &self.flight)),
+            Phase::Pairing => None,
+        }
+    }
+
+    fn weights(&self, _shape: &Shape, mv: &Move) -> (u128, u128) {
+        (mv.plus_weight, mv.minus_weight)
+    }
+
+    fn go_to_end(&mut self, shape: &Shape, mv: &Move, plus: bool) {
+        fly::<Brand>(shape, &mut self.flight, mv, plus, Blank::new(1));
+        look(shape, &mut self.flight);
+    }
+
+    fn go_without_row(&mut self, shape: &Shape) {
+        self.drop_row(shape);
+        look(shape, &mut self.flight);
+    }
+
+    fn go_to_pivots(&mut self, shape: &Shape) {
+        self.settle(shape);
+    }
+
+    fn kind_apart(&self, _shape: &Shape) -> Kind {
+        self.steps.kind()
+    }
+
+    fn bound_apart(&self, _shape: &Shape) -> u128 {
+        self.steps.bound()
+    }
+
+    fn go_apart(&mut self, _shape: &Shape, draw: u128) {
+        self.steps.advance(draw);
+    }
+}
+
 impl Splitting for Cube {
     type State = CubeState;
 
@@ -111,44 +167,15 @@ impl Splitting for Cube {
     }
 
     fn kind(&self, state: &CubeState) -> Kind {
-        match state.landing.phase {
-            Phase::Flying => match step(&self.shape, &state.landing.flight) {
-                Next::Move(_) => Kind::Flight,
-                Next::Independent => Kind::Drop,
-                Next::Wide => Kind::Wide,
-            },
-            Phase::Pairing => state.landing.steps.kind(),
-        }
+        state.landing.kind(&self.shape)
     }
 
     fn bound(&self, state: &CubeState) -> u128 {
-        match state.landing.phase {
-            Phase::Flying => match step(&self.shape, &state.landing.flight) {
-                Next::Move(mv) => mv.plus_weight + mv.minus_weight,
-                Next::Independent => 1,
-                Next::Wide => 1,
-            },
-            Phase::Pairing => state.landing.steps.bound(),
-        }
+        state.landing.bound(&self.shape)
     }
 
     fn advance(&self, state: &mut CubeState, draw: u128) {
-        match state.landing.phase {
-            Phase::Flying => match step(&self.shape, &state.landing.flight) {
-                Next::Independent => {
-                    state.landing.drop_row(&self.shape);
-                    look(&self.shape, &mut state.landing.flight);
-                }
-                Next::Wide => state.landing.settle(&self.shape),
-                Next::Move(mv) => {
-                    let plus = draw < mv.plus_weight;
-                    let flight = &mut state.landing.flight;
-                    fly::<Brand>(&self.shape, flight, &mv, plus, Blank::new(1));
-                    look(&self.shape, &mut state.landing.flight);
-                }
-            },
-            Phase::Pairing => state.landing.steps.advance(draw),
-        }
+        state.landing.advance(&self.shape, draw);
     }
 
     fn selected(&self, state: &CubeState, unit: usize) -> bool {

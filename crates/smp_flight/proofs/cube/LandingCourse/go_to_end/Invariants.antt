@@ -1,4 +1,4 @@
-use Rattle.smp_flight.proofs.cube.CubeSplitting.advance.Given as goal
+use Rattle.smp_flight.proofs.cube.LandingCourse.go_to_end.Given as goal
 
 -- the ledger is that of the blank
 abbrev pub ghosts-fly : goal.ghosts-fly
