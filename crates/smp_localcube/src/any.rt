@@ -10,6 +10,7 @@ use crate::design::LocalCube;
 use crate::state::LocalCubeState;
 use smp_flight::Shape;
 use smp_frac::NoMemory;
+use smp_moves::Course;
 use smp_near::ByDimensions;
 use smp_split::{Kind, Splitting};
 use std::alloc::Global;
@@ -81,7 +82,7 @@ impl AnyLocalCube {
     pub fn left(&self, state: &AnyLocalCubeState) -> u32
         ensures { result ≡ left_in state.now.at }
     {
-        in_each!(&state.state, inner => inner.landing.left)
+        in_each!(&state.state, inner => inner.course.landing.left)
     }
 
     // The units, their sizes, columns and probabilities.
@@ -102,22 +103,22 @@ impl Splitting for AnyLocalCube {
     }
 
     fn done(&self, state: &AnyLocalCubeState) -> bool {
-        in_each!(&state.state, inner => inner.landing.is_done())
+        in_each!(&state.state, inner => inner.course.landing.is_done())
     }
 
     fn kind(&self, state: &AnyLocalCubeState) -> Kind {
-        in_each!(&state.state, inner => inner.kind(self.shape()))
+        in_each!(&state.state, inner => inner.course.kind(self.shape()))
     }
 
     fn bound(&self, state: &AnyLocalCubeState) -> u128 {
-        in_each!(&state.state, inner => inner.bound(self.shape()))
+        in_each!(&state.state, inner => inner.course.bound(self.shape()))
     }
 
     fn advance(&self, state: &mut AnyLocalCubeState, draw: u128) {
-        in_each!(&mut state.state, inner => inner.advance(self.shape(), draw))
+        in_each!(&mut state.state, inner => inner.course.advance(self.shape(), draw))
     }
 
     fn selected(&self, state: &AnyLocalCubeState, unit: usize) -> bool {
-        in_each!(&state.state, inner => inner.landing.is_one(unit))
+        in_each!(&state.state, inner => inner.course.landing.is_one(unit))
     }
 }

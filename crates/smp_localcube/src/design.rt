@@ -8,10 +8,11 @@ ghost use Rattle.smp_moves.specs.Cubes.{left_in};
 ghost use Rattle.smp_flight.specs.{Landings.{IsBalanced}, Narrow.{IsNarrow}, Requests.{AreValues, units_of}};
 ghost use Rattle.smp_localcube.specs.{Kept.States.{IsPlaced}, Local.{local_of}, Method.{LocalUnits, method_of, started}};
 
-use crate::state::{LocalCubeState, Looked};
+use crate::state::{LocalCourse, LocalCubeState, Looked};
 use smp_flight::{Landing, Shape, is_narrow};
 use smp_frac::{NoMemory, Numbers};
 use smp_kernel::Tables;
+use smp_moves::Course;
 use smp_near::Points;
 use smp_places::Amounts;
 use smp_prob::Request;
@@ -72,7 +73,7 @@ impl<const K: usize> LocalCube<K> {
         ensures balanced { IfOk result (IsBalanced (local_of self.now.units)) }
     {
         let rows = self.shape.rows();
-        Ok(LocalCubeState {
+        let course = LocalCourse {
             landing: Landing::start(alloc, &self.shape)?,
             points: Points::new(alloc, self.coords.as_slice())?,
             weights: Amounts::ones(alloc, self.units)?,
@@ -81,7 +82,8 @@ impl<const K: usize> LocalCube<K> {
                 found: Box::new(alloc, None)?,
                 tables: Tables::new(alloc, rows),
             },
-        })
+        };
+        Ok(LocalCubeState { course })
     }
 
     /// Whether the numbers of the units are so small that no step of a selection is wide, whatever is drawn: exactly where some bounds of
@@ -97,7 +99,7 @@ impl<const K: usize> LocalCube<K> {
     pub fn left(&self, state: &LocalCubeState<K>) -> u32
         ensures { result ≡ left_in state.now.at }
     {
-        state.landing.left
+        state.course.landing.left
     }
 }
 
@@ -111,22 +113,22 @@ impl<const K: usize> Splitting for LocalCube<K> {
     }
 
     fn done(&self, state: &LocalCubeState<K>) -> bool {
-        state.landing.is_done()
+        state.course.landing.is_done()
     }
 
     fn kind(&self, state: &LocalCubeState<K>) -> Kind {
-        state.kind(&self.shape)
+        state.course.kind(&self.shape)
     }
 
     fn bound(&self, state: &LocalCubeState<K>) -> u128 {
-        state.bound(&self.shape)
+        state.course.bound(&self.shape)
     }
 
     fn advance(&self, state: &mut LocalCubeState<K>, draw: u128) {
-        state.advance(&self.shape, draw);
+        state.course.advance(&self.shape, draw);
     }
 
     fn selected(&self, state: &LocalCubeState<K>, unit: usize) -> bool {
-        state.landing.is_one(unit)
+        state.course.landing.is_one(unit)
     }
 }

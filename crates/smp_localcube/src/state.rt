@@ -1,16 +1,14 @@
 //! The states of a selection by the local cube.
 
-ghost use Rattle.std.specs.{Prelude.{◌≡◌, ◌≢◌, ℕ, ◌<◌, false, [], length, slice_index}, List.{AllPairs}};
-ghost use Rattle.smp_split.specs.Trees.{picked, weight_sum};
-ghost use Rattle.smp_values.specs.Values.{is_settled};
-ghost use Rattle.smp_moves.specs.{Answers.{IsPadded, line_of}, Cubes.{values_in}};
-ghost use Rattle.smp_localcube.specs.Kept.States.{AreTouched, IsKept, IsSearchable, IsSearched, state_of, weights_of};
-ghost use Rattle.smp_localcube.specs.Local.{IsLocal, Local, kind_from, parts_from};
+ghost use Rattle.std.specs.{Prelude.{◌≡◌, ◌≢◌, ℕ, ◌<◌, [], length, slice_index}, List.{AllPairs}};
+ghost use Rattle.smp_moves.specs.Answers.{IsPadded, line_of};
+ghost use Rattle.smp_localcube.specs.Kept.States.{AreTouched, Finds, IsKept, IsSearchable, IsSearched, state_of, weights_of};
+ghost use Rattle.smp_localcube.specs.Local.{IsLocal, Local, local_tree};
 
 use crate::orders::rising;
-use smp_flight::{FlightState, Landing, Line, Next, Shape, fly, step_on};
+use smp_flight::{FlightState, Landing, Line, Move, Next, Shape, fly, step_on};
 use smp_kernel::Tables;
-use smp_moves::Phase;
+use smp_moves::{Course, Phase};
 use smp_near::Points;
 use smp_places::Amounts;
 use smp_split::Kind;
@@ -18,12 +16,26 @@ use std::marker::{Brand, Model};
 use std::sync::ledger::Blank;
 
 /// A state of a selection by the local cube.
+#[derive(Drop)]
+pub struct LocalCubeState<const K: usize> {
+    pub(crate) course: LocalCourse<K>,
+}
+
+impl<const K: usize> Model for LocalCubeState<K> {
+    ghost Value = { Local };
+
+    ghost view = { λ a. state_of a.course.landing a.course.points a.course.chosen };
+
+    ghost invariant = { λ a. IsKept a.course.landing a.course.points a.course.weights a.course.chosen a.course.looked.found.value };
+}
+
+/// What such a state keeps.
 ///
 /// Its window has the units that moves have changed and left fractional. The points of the units that no move has changed are living,
 /// and these have the weight 1: so a unit is chosen, and a changed one taken out, along one path of a tree. The tables of a search take
 /// memory where there is some: no step fails for want of it.
 #[derive(Drop)]
-pub struct LocalCubeState<const K: usize> {
+pub(crate) struct LocalCourse<const K: usize> {
     pub(crate) landing: Landing,
     pub(crate) points: Points<K>,
     pub(crate) weights: Amounts,
@@ -31,19 +43,11 @@ pub struct LocalCubeState<const K: usize> {
     pub(crate) looked: Looked,
 }
 
-impl<const K: usize> Model for LocalCubeState<K> {
-    ghost Value = { Local };
-
-    ghost view = { λ a. state_of a.landing.phase a.landing.flight a.landing.steps a.landing.left a.points a.chosen };
-
-    ghost invariant = { λ a. IsKept a.landing.phase a.landing.flight a.landing.room a.points a.weights a.chosen a.looked.found.value };
-}
-
 /// The next step of a flight, as it was looked for last.
 #[derive(Drop)]
 pub(crate) struct Looked {
     /// None where a unit is to be chosen first: in a box, since it takes more bytes than all else here.
-    pub(crate) found: Box<Option<Next>>,
+    pub(crate) found: Box<Option<Next<Move>>>,
     /// The tables of that search, for the next one.
     pub(crate) tables: Tables,
 }
@@ -99,70 +103,74 @@ fn touch<const K: usize>(points: &mut Points<K>, weights: &mut Amounts, line: &L
     }
 }
 
-impl<const K: usize> LocalCubeState<K> {
-    /// The kind of the next step.
-    pub(crate) fn kind(&self, shape: &Shape) -> Kind
-        requires { IsLocal shape.now self.now }
-        ensures { result ≡ kind_from shape.now self.now self.now.at }
-    {
+impl<const K: usize> Course for LocalCourse<K> {
+    type Units = Shape;
+
+    type State = LocalCubeState<K>;
+
+    type Move = Move;
+
+    ghost tree = { local_tree };
+
+    ghost seen = { λ a. state_of a.landing a.points a.chosen };
+
+    ghost belongs = { IsLocal };
+
+    ghost is_kept = { λ a. IsKept a.landing a.points a.weights a.chosen a.looked.found.value };
+
+    ghost finds = { λ shape a. Finds shape a.landing a.points a.weights a.chosen };
+
+    fn found(&self, _shape: &Shape) -> Option<Next<Move>> {
         match self.landing.phase {
-            Phase::Flying => match *self.looked.found {
-                None => Kind::Choose,
-                Some(Next::Move(_)) => Kind::Flight,
-                Some(Next::Independent) => Kind::Drop,
-                Some(Next::Wide) => Kind::Wide,
-            },
+            Phase::Flying => *self.looked.found,
+            Phase::Pairing => None,
+        }
+    }
+
+    fn weights(&self, _shape: &Shape, mv: &Move) -> (u128, u128) {
+        (mv.plus_weight, mv.minus_weight)
+    }
+
+    fn go_to_end(&mut self, shape: &Shape, mv: &Move, plus: bool) {
+        touch(&mut self.points, &mut self.weights, &mv.direction);
+        fly::<Brand>(shape, &mut self.landing.flight, mv, plus, Blank::new(1));
+        self.chosen = None;
+        self.looked
+            .look(shape, &self.landing.flight, &self.points, None);
+    }
+
+    fn go_without_row(&mut self, shape: &Shape) {
+        self.landing.drop_row(shape);
+        self.looked
+            .look(shape, &self.landing.flight, &self.points, self.chosen);
+    }
+
+    fn go_to_pivots(&mut self, shape: &Shape) {
+        self.landing.settle(shape);
+    }
+
+    fn kind_apart(&self, _shape: &Shape) -> Kind {
+        match self.landing.phase {
+            Phase::Flying => Kind::Choose,
             Phase::Pairing => self.landing.steps.kind(),
         }
     }
 
-    /// The bound of the next step's draw.
-    pub(crate) fn bound(&self, shape: &Shape) -> u128
-        requires state { IsLocal shape.now self.now }
-        requires going { is_settled (values_in self.now.at) ≡ false }
-        ensures { result ≡ weight_sum (parts_from shape.now self.now self.now.at) }
-    {
+    fn bound_apart(&self, _shape: &Shape) -> u128 {
         match self.landing.phase {
-            Phase::Flying => match *self.looked.found {
-                None => self.weights.total() as u128,
-                Some(Next::Move(mv)) => mv.plus_weight + mv.minus_weight,
-                Some(Next::Independent) => 1,
-                Some(Next::Wide) => 1,
-            },
+            Phase::Flying => self.weights.total() as u128,
             Phase::Pairing => self.landing.steps.bound(),
         }
     }
 
-    /// Makes the step that a draw leads to.
-    pub(crate) fn advance(&mut self, shape: &Shape, draw: u128)
-        requires state { IsLocal shape.now self.old }
-        requires going { is_settled (values_in self.old.at) ≡ false }
-        requires within { draw < weight_sum (parts_from shape.now self.old self.old.at) }
-        ensures { self.new ≡ picked self.old (parts_from shape.now self.old self.old.at) draw }
-    {
+    fn go_apart(&mut self, shape: &Shape, draw: u128) {
         match self.landing.phase {
-            Phase::Flying => match *self.looked.found {
-                None => {
-                    let unit = self.weights.find(draw);
-                    self.chosen = Some(unit);
-                    self.looked
-                        .look(shape, &self.landing.flight, &self.points, Some(unit));
-                }
-                Some(Next::Independent) => {
-                    self.landing.drop_row(shape);
-                    self.looked
-                        .look(shape, &self.landing.flight, &self.points, self.chosen);
-                }
-                Some(Next::Wide) => self.landing.settle(shape),
-                Some(Next::Move(mv)) => {
-                    let plus = draw < mv.plus_weight;
-                    touch(&mut self.points, &mut self.weights, &mv.direction);
-                    fly::<Brand>(shape, &mut self.landing.flight, &mv, plus, Blank::new(1));
-                    self.chosen = None;
-                    self.looked
-                        .look(shape, &self.landing.flight, &self.points, None);
-                }
-            },
+            Phase::Flying => {
+                let unit = self.weights.find(draw);
+                self.chosen = Some(unit);
+                self.looked
+                    .look(shape, &self.landing.flight, &self.points, Some(unit));
+            }
             Phase::Pairing => self.landing.steps.advance(draw),
         }
     }

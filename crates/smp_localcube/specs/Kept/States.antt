@@ -1,19 +1,19 @@
 -- What the code keeps of a design and of a state.
 use Rattle.std.specs.Prelude.{◌≡◌, ℕ, ◌≤◌, Bool, not, nat_eq, ◌&&◌, if◌then◌else◌, List, ℤ, length, drop}
-use Rattle.std.specs.Prelude.{map, take, Option, IfSome, option_map}
+use Rattle.std.specs.Prelude.{map, take, Option, Some, None, IfSome, option_map}
 use Rattle.std.specs.Int.RustNames.{unsigned_abs}
 use Rattle.std.specs.List.{filter}
 use Rattle.smp_near.specs.Nearest.{LivingPoints, is_living}
 use Rattle.smp_prob.specs.Shares.{Shares}
 use Rattle.smp_values.specs.Values.{AllFractional, fractional_units}
-use Rattle.smp_moves.specs.Kept.Phases.{balancing_of}
 use Rattle.smp_moves.specs.Moves.{Line, entry_of, Next}
 use Rattle.smp_flight.specs.States.{Flight, IsFlight, Tracked, Units}
-use Rattle.smp_flight.specs.Landings.{HasRoom}
-use Rattle.smp_flight.specs.Answers.{Allows, IsMoveOf, answer_of}
-use Rattle.smp_flight.specs.declared.steps.Next.{Next as Answer}
+use Rattle.smp_moves.specs.Cubes.{flying}
+use Rattle.smp_flight.specs.Landings.{HasRoom, balancing_in}
+use Rattle.smp_flight.specs.Answers.{Allows, Answer, IsMoveOf, answer_of}
+use Rattle.smp_flight.specs.declared.landing.Landing.{Landing}
 use Rattle.smp_flight.specs.Steps.{next_on}
-use Rattle.smp_localcube.specs.Local.{IsCarried, Local, head_of, is_one_of, order_around, untouched}
+use Rattle.smp_localcube.specs.Local.{IsCarried, IsLocal, Local, head_of, is_one_of, order_around, untouched}
 use Rattle.smp_localcube.specs.declared.orders.Order.{Order}
 use Rattle.smp_moves.specs.declared.phases.Phase.{Phase}
 use Rattle.smp_moves.specs.declared.phases.Phase.TheVariants.{Flying, Pairing}
@@ -51,12 +51,12 @@ pub record AreTouched (before : LivingPoints) (line rest : Line) (now : LivingPo
   pub count : length now.living ≡ length before.living
   pub living : (k : ℕ) → (is_living now k && not (is_changed rest k)) ≡ (is_living before k && not (is_changed line k))
 
--- a state by its phase, its flight, its pivotal steps, and how many units were left
-abbrev pub state_of : Phase → Tracked → Shares → ℕ → LivingPoints → Option ℕ → Local
-state_of phase f s left points chosen = record {
+-- a state by its flight and landing, its points, and the unit that is chosen
+abbrev pub state_of : Landing → LivingPoints → Option ℕ → Local
+state_of l points chosen = record {
   coords = points.coords;
-  at = balancing_of phase f.flight s left;
-  touched = touched_in f;
+  at = balancing_in l;
+  touched = touched_in l.flight;
   chosen = chosen;
 }
 
@@ -91,6 +91,27 @@ pub record IsFlownOn (f : Tracked) (room : Shares) (points : LivingPoints) (weig
   pub ready : IsReady f room points weights
   pub searched : IsSearched f.flight.fixed f points.coords chosen found
 
-abbrev pub IsKept : Phase → Tracked → Shares → LivingPoints → List ℕ → Option ℕ → Option Answer → Type 0
-IsKept Flying f room points weights chosen found = IsFlownOn f room points weights chosen found
-IsKept Pairing f room points weights chosen found = Unit {0}
+-- of the steps of a state, as long as it flies
+abbrev pub IsKeptIn : Phase → Landing → LivingPoints → List ℕ → Option ℕ → Option Answer → Type 0
+IsKeptIn Flying l points weights chosen found = IsFlownOn l.flight l.room points weights chosen found
+IsKeptIn Pairing l points weights chosen found = Unit {0}
+
+abbrev pub IsKept : Landing → LivingPoints → List ℕ → Option ℕ → Option Answer → Type 0
+IsKept l = IsKeptIn l.phase l
+
+-- a state in flight
+abbrev pub in_flight : Tracked → ℕ → LivingPoints → Option ℕ → Local
+in_flight f left points chosen = record { coords = points.coords; at = flying f.flight left; touched = touched_in f; chosen = chosen }
+
+-- What holds of a state in flight: what it is, what is kept of it, and that this is its next step.
+pub record Standing (units : Units) (l : Landing) (points : LivingPoints) (weights : List ℕ) (chosen : Option ℕ)
+    (found : Option Answer) : Type 0 where
+  pub flying : l.phase ≡ Flying
+  pub here : IsLocal units (in_flight l.flight l.left points chosen)
+  pub ready : IsReady l.flight l.room points weights
+  pub searched : IsSearched units l.flight points.coords chosen found
+
+-- what is found of its next step
+abbrev pub Finds : Units → Landing → LivingPoints → List ℕ → Option ℕ → Option Answer → Type 0
+Finds units l points weights chosen (Some answer) = Standing units l points weights chosen (Some answer)
+Finds units l points weights chosen None = l.phase ≡ Flying → Standing units l points weights chosen None

@@ -1,4 +1,4 @@
-use Rattle.std.proofs.Common.{SFits, rules, ◌≡◌, ◌≢◌, ◌+◌, ◌<◌, [], pos, ℕ, length, get_or, set, take, drop, false, lit<, arith, sym, ap, ◌∙◌, if◌then◌else◌, inl, inr, length-take}
+use Rattle.std.proofs.Common.{SFits, rules, ◌≡◌, ◌≢◌, [], pos, ℕ, length, get_or, set, take, drop, false, lit<, arith, sym, ap, ◌∙◌, if◌then◌else◌, inl, inr, length-take}
 use Rattle.std.proofs.{lemmas.Int.{to_z-of_z}, lemmas.List.{length-map, map-set}, Math.ListN.{drop_of_length-le}}
 use mir.Syntax.{w64}
 use mir.Val.{of_z, to_z}
