@@ -1,10 +1,10 @@
 -- A direction by an array.
-use Rattle.std.proofs.Common.{◌≡◌, ℕ, zero, suc, le_of_suc-le-suc, map, ◌+◌, ◌*◌, ◌/◌, ◌<◌, ◌≤◌, ◌^◌, nat_le, false, fold, Option, Some, None, List, [], ◌∷◌, ℤ, pos, take, length, get_or, arith, refl, sym, ap, ap₂, ◌∙◌, subst, inl, inr, length-take, get_or-take}
+use Rattle.std.proofs.Common.{◌≡◌, ℕ, zero, suc, le_of_suc-le-suc, map, ◌+◌, ◌*◌, ◌/◌, ◌<◌, ◌≤◌, ◌^◌, nat_le, false, fold, Option, Some, None, List, [], ◌∷◌, ℤ, pos, take, length, get_or, arith, refl, sym, ap, ap₂, ◌∙◌, inl, inr, length-take, get_or-take}
 use Rattle.std.specs.Int.RustNames.{unsigned_abs}
 use Rattle.std.proofs.lemmas.Bool.{cases_Bool, cases_lt, false_from_ne_true, leb-true}
 use Rattle.std.proofs.{lemmas.List.{ext_get_or, length-map, get_or-map}, lemmas.List.Folds.{fold-map}, Math.Nat.{mul-div-le, mul-le-mul_left, mul-le-mul_right}}
 use Rattle.smp_kernel.specs.Vectors.{entry}
-use Rattle.smp_moves.specs.{declared.lines.Ratio.{Ratio}, Kept.Computed.{direction_fits}}
+use Rattle.smp_moves.specs.{declared.lines.Ratio.{Ratio}}
 use Rattle.smp_moves.proofs.LineEnds.{lowest_is}
 use Rattle.smp_stratcube.specs.{Units.{Units, column, columns_of, share}, Kept.Gates.{gated, held}}
 use Rattle.smp_moves.specs.Steps.{product, signed, common_multiple, products, scale_of, scaled}
@@ -59,11 +59,13 @@ dens_some [] (suc n) each = tt
 dens_some (r ∷ parts) (suc n) each = ((each 0 (omega arith)).some, dens_some parts n (λ j l. each (suc j) (omega (arith, l))))
 
 -- the scale of an array of products
-pub scale_held : (parts : List Ratio) (n : ℕ) → ((j : ℕ) → j < n → IsPart (part parts j)) →
-    fold (λ (m : Option ℕ) (r : Ratio). gated m r.den) (Some 1) (take n parts) ≡ held (common_multiple (map (λ (r : Ratio). r.den) (take n parts)))
-scale_held parts n each =
+pub scale_is : (units : Units) (us : List ℕ) (w : List ℤ) (parts : List Ratio) (n : ℕ) → n ≤ length us → n ≤ length w → n ≤ length parts →
+    AreParts units us w n parts → ((j : ℕ) → j < n → IsPart (part parts j)) →
+    fold (λ (m : Option ℕ) (r : Ratio). gated m r.den) (Some 1) (take n parts) ≡ held (scale_of (share units) (take n us) (take n w))
+scale_is units us w parts n lu lw lp are each =
     sym (fold-map gated (λ (r : Ratio). r.den) (Some 1) (take n parts))
     ∙ gate_held 1 (map (λ (r : Ratio). r.den) (take n parts)) (omega arith) (dens_some parts n each)
+    ∙ ap (λ (rs : List Ratio). held (common_multiple (map (λ (r : Ratio). r.den) rs))) (parts_are units us w parts n lu lw lp are)
 
 -- ---- sizes
 
@@ -105,24 +107,3 @@ held_some m k e =
 
 pub held_none : (m : ℕ) → None ≡ held m → nat_le m (2 ^ 80) ≡ false
 held_none m e = false_from_ne_true (nat_le m (2 ^ 80)) (λ t. (let some : None ≡ Some m = rw t at e in cc))
-
--- the row that arrays of products hold, where their scale fits
-module _ (units : Units) (us : List ℕ) (ws : List ℤ) (parts : List Ratio) (n : ℕ) (lu : n ≤ length us) (lw : n ≤ length ws) (lp : n ≤ length parts) (are : AreParts units us ws n parts) where
-  pub row_wide : None ≡ held (common_multiple (map (λ (r : Ratio). r.den) (take n parts))) → direction_fits (share units) (take n us) (take n ws) ≡ false
-  row_wide e =
-      (let past = held_none (scale_of (share units) (take n us) (take n ws))
-      (subst (λ (rs : List Ratio). None ≡ held (common_multiple (map (λ (r : Ratio). r.den) rs))) (parts_are units us ws parts n lu lw lp are) e) in
-      rw past refl)
-
-  row_held : (den : ℕ) → Some den ≡ held (common_multiple (map (λ (r : Ratio). r.den) (take n parts))) → (den ≡ scale_of (share units) (take n us) (take n ws)) × (scale_of (share units) (take n us) (take n ws) ≤ 2 ^ 80)
-  row_held den e =
-      held_some (scale_of (share units) (take n us) (take n ws)) den
-      (subst (λ (rs : List Ratio). Some den ≡ held (common_multiple (map (λ (r : Ratio). r.den) rs))) (parts_are units us ws parts n lu lw lp are) e)
-
-  pub row_is : (den : ℕ) (row : List ℤ) → n ≤ length row → ((k : ℕ) → k < n → entry row k ≡ signed (entry ws k) (over (part parts k) den)) →
-      Some den ≡ held (common_multiple (map (λ (r : Ratio). r.den) (take n parts))) →
-      (take n row ≡ scaled (share units) (scale_of (share units) (take n us) (take n ws)) (take n us) (take n ws)) × (scale_of (share units) (take n us) (take n ws) ≤ 2 ^ 80)
-  row_is den row lr h e = (
-    subst (λ (m : ℕ). take n row ≡ scaled (share units) m (take n us) (take n ws)) (row_held den e).0 (products_are units den us ws row parts n lu lw lr are h),
-    (row_held den e).1,
-  )

@@ -1,19 +1,19 @@
 -- A state after a step: what it is, and what is kept of it.
-use Rattle.std.proofs.Common.{◌≡◌, ℕ, ◌+◌, ◌-◌, ◌<◌, ◌≤◌, nat_lt, suc, Bool, true, false, Option, Some, None, List, [], ◌∷◌, length, get_or, arith, refl, sym, ap, ◌∙◌, subst, inl, inr, length-take, get_or-take}
+use Rattle.std.proofs.Common.{◌≡◌, ℕ, ◌+◌, ◌<◌, ◌≤◌, suc, Bool, true, false, Option, Some, None, List, [], length, get_or, arith, refl, sym, ap, ap₂, ◌∙◌, subst, inl, inr, length-take, get_or-take}
 use Rattle.std.specs.List.{AllByRecursion}
-use Rattle.std.proofs.lemmas.Bool.{cases_Bool, false_from_ne_true, lt-ltb, ltb-false, true≢false}
+use Rattle.std.proofs.lemmas.Bool.{cases_Bool, false_from_ne_true, true≢false}
 use Rattle.smp_split.specs.{Trees.{EachPart, picked, weight_sum}, Laws.Parts.{picked-moved, weight_sum-moved}, Laws.Steps.{picked_is_part}}
-use Rattle.smp_moves.specs.{Owed.{HasKept}, Cubes.{flying, landed, pairing, values_in}}
+use Rattle.smp_moves.specs.{Courses.{end_of}, Owed.{HasKept}, Cubes.{flying, pairing, values_in}}
 use Rattle.smp_stratcube.specs.{Kept.Trees.{flight_parts, strat_parts, weighed_of}, declared.fronts.Front.{Front}, Units.{Units, share}}
 use Rattle.smp_stratcube.proofs.{Balances.{paired_kept}, Ahead.{front_before, stays_ahead}, Pairing.{pair_of_front}, Stepped.{off_units}}
-use Rattle.smp_moves.specs.{Moves.{Line, Move, Next, chosen_line, independent, move, wide}, Kept.Computed.{direction, IsKnown, dropped}}
-use Rattle.smp_stratcube.specs.{Kept.Moves.{IsStep}, Laws.Pairs.{each_of, each_taken, stands_at, step_is}}
+use Rattle.smp_moves.specs.{Moves.{Line, Move, Next, chosen_line, move}, Kept.Computed.{direction, IsKnown}}
+use Rattle.smp_stratcube.specs.{Kept.Moves.{Answer, IsStep}, Laws.Pairs.{each_of, each_taken, stands_at, step_is}}
 use Rattle.smp_moves.specs.{declared.phases.Phase.{Phase}, declared.phases.Phase.TheVariants.{Flying, Pairing}, Kept.Phases.{balancing_of}}
 use Rattle.smp_stratcube.specs.{declared.values.Value.{Value}, States.{Balancing, Flight, IsFlying, IsPairing}}
-use Rattle.smp_stratcube.specs.{Values.{fractional_count, fractional_units, is_fractional, is_settled, value}, Laws.Ends.{along_still, length_along}}
+use Rattle.smp_stratcube.specs.{Values.{fractional_units, is_fractional, is_settled, value}, Laws.Ends.{along_still, length_along}}
 use Rattle.smp_stratcube.specs.{Kept.Computed.{chosen, moved_values, next, flight_of}, Pairs.{first_pair, paired_parts, step_units}}
 use Rattle.smp_stratcube.specs.{Kept.Pairs.{is_one_of, units_by}, Kept.Fronts.{IsAhead, IsFront, front_units}, Moves.{setting_of}}
-use Rattle.smp_stratcube.specs.{declared.steps.Next.{Next as Answer}, Laws.Nexts.{end_is}}
+use Rattle.smp_stratcube.specs.Laws.Nexts.{end_is}
 use Rattle.smp_stratcube.specs.Laws.Taken.{length_taken, taken_kept}
 use Rattle.smp_stratcube.proofs.Written.{alone, some_front}
 use Rattle.smp_moves.proofs.Computed.{known}
@@ -24,15 +24,12 @@ pub values_of : (p : Phase) (f : Flight) (left : ℕ) → values_in (balancing_o
 values_of Flying f left = refl
 values_of Pairing f left = refl
 
--- ---- a state in flight
+-- in flight, the units that it is of are the own ones
+pub aloft : (p : Phase) (units of : Units) (values : List Value) (rows left : ℕ) → p ≡ Flying → of ≡ units → flying (flight_of units values rows) left ≡ balancing_of p (flight_of of values rows) values left
+aloft p units of values rows left flies own = ap₂ (λ q u. balancing_of q (flight_of u values rows) values left) (sym flies) (sym own)
 
--- the units that a state in flight is of are those in which it is one
-pub own_flight : (units of : Units) (values : List Value) (rows : ℕ) → IsFlying units (flight_of of values rows) → IsFlying units (flight_of units values rows)
-own_flight units of values rows ok = subst (λ (u : Units). IsFlying units (flight_of u values rows)) ok.fixed_is ok
-
--- and by them is the step that is kept
-pub step_by : (units of : Units) (values : List Value) (rows : ℕ) (now found : Answer) → IsFlying units (flight_of of values rows) → now ≡ found → IsStep of (flight_of of values rows) found → IsStep units (flight_of of values rows) now
-step_by units of values rows now found ok same is = subst (IsStep units (flight_of of values rows)) (sym same) (subst (λ (u : Units). IsStep u (flight_of of values rows) found) ok.fixed_is is)
+pub settling : (p : Phase) (f : Flight) (values : List Value) (left : ℕ) → p ≡ Pairing → pairing values left ≡ balancing_of p f values left
+settling p f values left pairs = ap (λ q. balancing_of q f values left) (sym pairs)
 
 -- the step of its values is kept
 pub step_there : (units of : Units) (values vs : List Value) (rows : ℕ) (found : Answer) → units ≡ of → vs ≡ values → IsStep units (flight_of units vs rows) found → IsStep of (flight_of of values rows) found
@@ -40,30 +37,13 @@ step_there units of values vs rows found own same is = subst (λ (u : Units). Is
 
 -- ---- the part that a draw picks
 
-pub picks_move : (units : Units) (f : Flight) (left : ℕ) (m : Move) (draw : ℕ) → next units f ≡ move m → draw < weight_sum (strat_parts units (flying f left)) →
-    picked (flying f left) (strat_parts units (flying f left)) draw ≡ flying (chosen units f m (nat_lt draw m.plus_weight)) left
-picks_move units f left m draw e l =
-    let below : draw < m.plus_weight + (m.minus_weight + 0) = subst (λ n. draw < n) (ap (λ a. weight_sum (flight_parts units f left a)) e) l in
-    ap (λ a. picked (flying f left) (flight_parts units f left a) draw) e
-    ∙ elim (cases_Bool (nat_lt draw m.plus_weight)) [
-      | inl t ↦ rw t refl
-      | inr n ↦ (let rest : nat_lt (draw - m.plus_weight) m.minus_weight ≡ true = lt-ltb (draw - m.plus_weight) m.minus_weight (omega (arith, below, ltb-false draw m.plus_weight n)) in rw (n, rest) refl)
-    ]
+-- that at an end of the step, and at the end of a move
+pub end_there : (units : Units) (f : Flight) (left : ℕ) (a : Next) → next units f ≡ a → (plus : Bool) → end_of (flying f left) (flight_parts units f left a) plus ≡ end_of (flying f left) (strat_parts units (flying f left)) plus
+end_there units f left a e plus = ap (λ n. end_of (flying f left) (flight_parts units f left n) plus) (sym e)
 
--- the one part of a step that isn't a move
-picks_lone : (units : Units) (f : Flight) (left draw : ℕ) (a : Next) (t : Balancing) → next units f ≡ a → flight_parts units f left a ≡ record { weight = 1; state = t } ∷ [] → draw < weight_sum (strat_parts units (flying f left)) →
-    picked (flying f left) (strat_parts units (flying f left)) draw ≡ t
-picks_lone units f left draw a t e lone l =
-    let parts = ap (flight_parts units f left) e ∙ lone in
-    let below : draw < 1 = subst (λ n. draw < n) (ap (λ ps. weight_sum ps) parts) l in
-    let none : draw ≡ 0 = omega (arith, below) in
-    ap (λ ps. picked (flying f left) ps draw) parts ∙ (rw none refl)
-
-pub picks_drop : (units : Units) (f : Flight) (left draw : ℕ) → next units f ≡ independent → draw < weight_sum (strat_parts units (flying f left)) → picked (flying f left) (strat_parts units (flying f left)) draw ≡ flying (dropped f) (landed (fractional_count f.values) left)
-picks_drop units f left draw e l = picks_lone units f left draw independent (flying (dropped f) (landed (fractional_count f.values) left)) e refl l
-
-pub picks_wide : (units : Units) (f : Flight) (left draw : ℕ) → next units f ≡ wide → draw < weight_sum (strat_parts units (flying f left)) → picked (flying f left) (strat_parts units (flying f left)) draw ≡ pairing f.values (landed (fractional_count f.values) left)
-picks_wide units f left draw e l = picks_lone units f left draw wide (pairing f.values (landed (fractional_count f.values) left)) e refl l
+pub move_end : (units : Units) (f : Flight) (left : ℕ) (m : Move) → next units f ≡ move m → (plus : Bool) → flying (chosen units f m plus) left ≡ end_of (flying f left) (strat_parts units (flying f left)) plus
+move_end units f left m e true = end_there units f left (move m) e true
+move_end units f left m e false = end_there units f left (move m) e false
 
 pub picks_pair : (units : Units) (values : List Value) (left draw : ℕ) → picked (pairing values left) (strat_parts units (pairing values left)) draw ≡ pairing (picked values (paired_parts units values) draw) left
 picks_pair units values left draw = picked-moved (λ t. pairing t left) values (paired_parts units values) draw

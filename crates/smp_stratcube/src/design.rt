@@ -9,13 +9,13 @@ ghost use Rattle.smp_split.specs.Methods.{HasMeans};
 use crate::fronts::{EMPTY, front_of};
 use crate::layers::Layers;
 use crate::making::units_of;
-use crate::state::{StratCubeState, fractional};
+use crate::state::{StratCourse, StratCubeState, fractional};
 use crate::steps::step;
 use crate::units::Units;
 use crate::values::{Value, at};
 use smp_frac::NoMemory;
 use smp_kernel::Tables;
-use smp_moves::Phase;
+use smp_moves::{Course, Phase};
 use smp_split::{Kind, Splitting};
 use std::alloc::Global;
 use std::marker::Model;
@@ -76,7 +76,7 @@ impl StratCube {
         let front = front_of(&EMPTY, slice);
         let mut tables = Tables::new(alloc, all);
         let next = step(&self.units, slice, all, &front, &mut tables);
-        Ok(StratCubeState {
+        let course = StratCourse {
             values,
             rows: all,
             front,
@@ -85,14 +85,15 @@ impl StratCube {
             tables,
             found: Box::new(alloc, next)?,
             of: Snapshot::of(&self.units),
-        })
+        };
+        Ok(StratCubeState { course })
     }
 
     /// How many units were fractional where the landing began, and 0 as long as it hasn't begun.
     pub fn left(&self, state: &StratCubeState) -> u32
         ensures { result ≡ left_in state.now }
     {
-        state.left
+        state.course.left
     }
 }
 
@@ -107,24 +108,24 @@ impl Splitting for StratCube {
 
     #[tactic(auto, using(crate::proofs::Keeping::values_of))]
     fn done(&self, state: &StratCubeState) -> bool {
-        fractional(state.values.as_slice(), &state.front) == 0
+        fractional(state.course.values.as_slice(), &state.course.front) == 0
     }
 
     fn kind(&self, state: &StratCubeState) -> Kind {
-        state.kind(&self.units)
+        state.course.kind(&self.units)
     }
 
     fn bound(&self, state: &StratCubeState) -> u128 {
-        state.bound(&self.units)
+        state.course.bound(&self.units)
     }
 
     fn advance(&self, state: &mut StratCubeState, draw: u128) {
-        state.advance(&self.units, draw);
+        state.course.advance(&self.units, draw);
     }
 
     #[tactic(auto, using(crate::proofs::Keeping::values_of))]
     fn selected(&self, state: &StratCubeState, unit: usize) -> bool {
-        let value = at(state.values.as_slice(), unit);
+        let value = at(state.course.values.as_slice(), unit);
         value.at.num == value.at.den
     }
 }

@@ -1,10 +1,10 @@
 //! The direction of a circuit.
 
-ghost use Rattle.std.specs.{Prelude.{◌≡◌, ◌≤◌, ◌<◌, ◌^◌, ◌-◌, ℕ, MatchOption, false, length, map, pos, take, unsigned_abs}, List.{All}};
+ghost use Rattle.std.specs.{Prelude.{◌≡◌, ◌≤◌, ◌<◌, ◌^◌, ◌-◌, ℕ, MatchOption, false, length, pos, take, unsigned_abs}, List.{All}};
 ghost use Rattle.smp_frac.specs.Limits.{most_denominator, most_entry, number_limit};
 ghost use Rattle.smp_kernel.specs.Vectors.{IsZero, Within, entry};
-ghost use Rattle.smp_stratcube.specs.{Units.{IsUnits, columns_of, share}, Kept.Gates.{IsSome, held}};
-ghost use Rattle.smp_moves.specs.{Steps.{product, signed, common_multiple, scale_of, scaled}, Kept.Computed.{IsLineOf, direction_fits}};
+ghost use Rattle.smp_stratcube.specs.{Units.{IsUnits, columns_of, share}, Kept.Gates.{held}};
+ghost use Rattle.smp_moves.specs.{Steps.{product, signed, scale_of, scaled}, Kept.Computed.{IsLineOf, direction_fits}};
 ghost use Rattle.smp_stratcube.specs.Kept.Lines.{AreInside, AreParts, IsPart, over, part};
 
 use crate::fronts::Front;
@@ -33,40 +33,32 @@ fn product(share: Ratio, factor: i64) -> Ratio
     requires below { share.num < share.den }
     requires share { share.den ≤ 2 ^ 49 }
     requires factor { unsigned_abs factor ≤ most_entry }
-    ensures { result ≡ product share factor }
+    ensures is { result ≡ product share factor }
+    ensures some { 1 ≤ result.den }
 {
     lowest(share.num * factor.unsigned_abs() as u128, share.den)
 }
 
-/// The products of the units of a circuit, and 0 in the places past them.
-fn parts_of(units: &Units, front: &Front, factors: &Factors) -> [Ratio; 17]
+/// The products of the units of a circuit, and their least common denominator.
+fn parts_of(units: &Units, front: &Front, factors: &Factors) -> ([Ratio; 17], Option<u128>)
     requires are { IsUnits units.now }
     requires inside { AreInside (length units.now.members) front.now }
     requires fewer { factors.now.number ≤ front.now.number }
     requires small { (j : ℕ) → unsigned_abs (entry factors.now.w j) ≤ most_entry }
-    ensures are { AreParts units.now front.now.units factors.now.w factors.now.number result }
-    ensures long { length result ≡ 17 }
-    ensures each { (j : ℕ) → j < factors.now.number → IsPart (part result j) }
+    ensures are { AreParts units.now front.now.units factors.now.w factors.now.number result.0 }
+    ensures each { (j : ℕ) → j < factors.now.number → IsPart (part result.0 j) }
+    ensures scale { let number = factors.now.number in
+        let prefix = take number front.now.units in let w = take number factors.now.w in
+        result.1 ≡ held (scale_of (share units.now) prefix w) }
 {
     let mut parts = [Ratio { num: 0, den: 1 }; 17];
-    for place in 0..factors.number {
-        let share = units.share(front.units[place]);
-        parts[place] = product(share, factors.w[place]);
-    }
-    parts
-}
-
-/// The least common denominator of the first products.
-fn scale_of(parts: &[Ratio; 17], number: usize) -> Option<u128>
-    requires short { number ≤ 17 }
-    requires each { (j : ℕ) → j < number → IsPart (part parts.now j) }
-    ensures { result ≡ held (common_multiple (map (λ (r : Ratio). r.den) (take number parts.now))) }
-{
     let mut scale = Some(1);
-    for place in 0..number {
-        scale = within_gate(scale, parts[place].den);
+    for place in 0..factors.number {
+        let part = product(units.share(front.units[place]), factors.w[place]);
+        parts[place] = part;
+        scale = within_gate(scale, part.den);
     }
-    scale
+    (parts, scale)
 }
 
 /// A number with the sign of a factor.
@@ -112,8 +104,8 @@ pub(crate) fn direction(units: &Units, front: &Front, factors: &Factors) -> Opti
         (direction_fits (share units.now) prefix w ≡ false)
         (IsLineOf (share units.now) prefix w) }
 {
-    let parts = parts_of(units, front, factors);
-    match scale_of(&parts, factors.number) {
+    let (parts, scale) = parts_of(units, front, factors);
+    match scale {
         None => None,
         Some(scale) => {
             let products = products(&parts, factors, scale);

@@ -1,21 +1,20 @@
 //! The states of a selection.
 
-ghost use Rattle.std.specs.Prelude.{◌≡◌, ◌+◌, ◌*◌, ◌<◌, ◌≤◌, false, length};
+ghost use Rattle.std.specs.Prelude.{◌≡◌, ◌+◌, ◌*◌, ◌≤◌, length};
 ghost use Rattle.smp_frac.specs.Limits.{most_rows};
-ghost use Rattle.smp_split.specs.Trees.{picked, weight_sum};
-ghost use Rattle.smp_moves.specs.{Cubes.{landed, values_in}, Kept.Phases.{balancing_of}};
-ghost use Rattle.smp_stratcube.specs.{States.{Balancing, IsBalancing, IsFlying}, Values.{fractional_count, is_settled}};
-ghost use Rattle.smp_stratcube.specs.{Kept.Trees.{strat_kind, strat_parts}, Kept.Fronts.{IsFront}, Kept.Moves.{HasGone, IsMoveOf}};
-ghost use Rattle.smp_stratcube.specs.{Kept.Computed.{flight_of}, Kept.States.{IsKept}};
+ghost use Rattle.smp_moves.specs.Cubes.{landed};
+ghost use Rattle.smp_stratcube.specs.{States.{Balancing, IsBalancing, IsFlying}, Values.{fractional_count}};
+ghost use Rattle.smp_stratcube.specs.{Kept.Trees.{strat_tree}, Kept.Fronts.{IsFront}, Kept.Moves.{HasGone, IsMoveOf}};
+ghost use Rattle.smp_stratcube.specs.{Kept.Computed.{flight_of}, Kept.States.{Finds, IsKept, seen}};
 
 use crate::ends::go;
 use crate::fronts::{Front, front_of};
 use crate::pairs::{advance, bound, kind};
-use crate::steps::{Move, Next, step};
+use crate::steps::{Move, step};
 use crate::units::Units;
 use crate::values::Value;
 use smp_kernel::Tables;
-use smp_moves::Phase;
+use smp_moves::{Course, Next, Phase};
 use smp_split::Kind;
 use std::marker::Model;
 use std::snapshot::Snapshot;
@@ -23,6 +22,20 @@ use std::snapshot::Snapshot;
 /// A state of a selection by the cube over all strata.
 #[derive(Drop)]
 pub struct StratCubeState {
+    pub(crate) course: StratCourse,
+}
+
+impl Model for StratCubeState {
+    ghost Value = { Balancing };
+
+    ghost view = { λ a. seen a.course };
+
+    ghost invariant = { λ a. IsKept a.course };
+}
+
+/// What such a state keeps.
+#[derive(Drop)]
+pub(crate) struct StratCourse {
     pub(crate) values: Vec<Value>,
     pub(crate) rows: usize,
     pub(crate) front: Front,
@@ -31,17 +44,9 @@ pub struct StratCubeState {
     /// The tables of the search before, for the next one.
     pub(crate) tables: Tables,
     /// The next step of the flight, as long as it goes on: in a box, since it takes more bytes than all else here.
-    pub(crate) found: Box<Next>,
+    pub(crate) found: Box<Next<Move>>,
     /// The units that it is a state of, for contracts alone: it takes no bytes.
     pub(crate) of: Snapshot<Units>,
-}
-
-impl Model for StratCubeState {
-    ghost Value = { Balancing };
-
-    ghost view = { λ a. balancing_of a.phase (flight_of a.of.value a.values.items a.rows) a.values.items a.left };
-
-    ghost invariant = { λ a. IsKept a.of.value a.phase a.values.items a.rows a.front a.found.value };
 }
 
 /// How many units are fractional.
@@ -68,7 +73,7 @@ fn landed(values: &[Value], front: &Front, left: u32) -> u32
 }
 
 /// Keeps a step in place of the one before.
-fn keep(found: &mut Box<Next>, step: Next)
+fn keep(found: &mut Box<Next<Move>>, step: Next<Move>)
     ensures { found.new.value ≡ step }
 {
     **found = step;
@@ -88,74 +93,65 @@ fn fly(units: &Units, values: &mut Vec<Value>, rows: usize, mv: &Move, plus: boo
     }
 }
 
-impl StratCubeState {
-    /// The kind of the next step.
-    pub(crate) fn kind(&self, units: &Units) -> Kind
-        requires { IsBalancing units.now self.now }
-        ensures { result ≡ strat_kind units.now self.now }
-    {
+impl Course for StratCourse {
+    type Units = Units;
+
+    type State = StratCubeState;
+
+    type Move = Move;
+
+    ghost tree = { strat_tree };
+
+    ghost seen = { seen };
+
+    ghost belongs = { IsBalancing };
+
+    ghost is_kept = { IsKept };
+
+    ghost finds = { Finds };
+
+    fn found(&self, _units: &Units) -> Option<Next<Move>> {
         match self.phase {
-            Phase::Flying => match *self.found {
-                Next::Move(_) => Kind::Flight,
-                Next::Independent => Kind::Drop,
-                Next::Wide => Kind::Wide,
-            },
-            Phase::Pairing => kind(units, self.values.as_slice(), &self.front),
+            Phase::Flying => Some(*self.found),
+            Phase::Pairing => None,
         }
     }
 
-    /// The bound of the next step's draw.
-    pub(crate) fn bound(&self, units: &Units) -> u128
-        requires state { IsBalancing units.now self.now }
-        requires going { is_settled (values_in self.now) ≡ false }
-        ensures { result ≡ weight_sum (strat_parts units.now self.now) }
-    {
-        match self.phase {
-            Phase::Flying => match *self.found {
-                Next::Move(mv) => mv.plus_weight + mv.minus_weight,
-                Next::Independent => 1,
-                Next::Wide => 1,
-            },
-            Phase::Pairing => bound(units, self.values.as_slice(), &self.front),
-        }
+    fn weights(&self, _units: &Units, mv: &Move) -> (u128, u128) {
+        (mv.plus_weight, mv.minus_weight)
     }
 
-    /// Makes the step that a draw leads to, and looks for the next one of the flight, so that it isn't searched again.
-    pub(crate) fn advance(&mut self, units: &Units, draw: u128)
-        requires state { IsBalancing units.now self.old }
-        requires going { is_settled (values_in self.old) ≡ false }
-        requires within { draw < weight_sum (strat_parts units.now self.old) }
-        ensures { self.new ≡ picked self.old (strat_parts units.now self.old) draw }
-    {
-        match self.phase {
-            Phase::Flying => {
-                let next = *self.found;
-                match next {
-                    Next::Independent => {
-                        let values = self.values.as_slice();
-                        self.left = landed(values, &self.front, self.left);
-                        self.rows -= 1;
-                        let next = step(units, values, self.rows, &self.front, &mut self.tables);
-                        keep(&mut self.found, next);
-                    }
-                    Next::Wide => {
-                        self.left = landed(self.values.as_slice(), &self.front, self.left);
-                        self.phase = Phase::Pairing;
-                    }
-                    Next::Move(mv) => {
-                        let plus = draw < mv.plus_weight;
-                        fly(units, &mut self.values, self.rows, &mv, plus);
-                        let values = self.values.as_slice();
-                        self.front = front_of(&self.front, values);
-                        let next = step(units, values, self.rows, &self.front, &mut self.tables);
-                        keep(&mut self.found, next);
-                    }
-                }
-            }
-            Phase::Pairing => {
-                advance(units, &mut self.values, &self.front, draw);
-                self.front = front_of(&self.front, self.values.as_slice());
-            }
-        }
+    fn go_to_end(&mut self, units: &Units, mv: &Move, plus: bool) {
+        fly(units, &mut self.values, self.rows, mv, plus);
+        let values = self.values.as_slice();
+        self.front = front_of(&self.front, values);
+        let next = step(units, values, self.rows, &self.front, &mut self.tables);
+        keep(&mut self.found, next);
+    }
+
+    fn go_without_row(&mut self, units: &Units) {
+        let values = self.values.as_slice();
+        self.left = landed(values, &self.front, self.left);
+        self.rows -= 1;
+        let next = step(units, values, self.rows, &self.front, &mut self.tables);
+        keep(&mut self.found, next);
+    }
+
+    fn go_to_pivots(&mut self, _units: &Units) {
+        self.left = landed(self.values.as_slice(), &self.front, self.left);
+        self.phase = Phase::Pairing;
+    }
+
+    fn kind_apart(&self, units: &Units) -> Kind {
+        kind(units, self.values.as_slice(), &self.front)
+    }
+
+    fn bound_apart(&self, units: &Units) -> u128 {
+        bound(units, self.values.as_slice(), &self.front)
+    }
+
+    fn go_apart(&mut self, units: &Units, draw: u128) {
+        advance(units, &mut self.values, &self.front, draw);
+        self.front = front_of(&self.front, self.values.as_slice());
     }
 }

@@ -11,7 +11,7 @@ use crate::fronts::Front;
 use crate::units::Units;
 use crate::values::Value;
 use smp_kernel::{Searched, Tables};
-use smp_moves::{Line, Reach, lowest};
+use smp_moves::{Line, Next, Reach, lowest};
 
 /// A move along a line: the common denominator of the values of its units, how far the line is followed and how far its opposite, and
 /// both weights.
@@ -25,18 +25,8 @@ pub(crate) struct Move {
     pub(crate) minus_weight: u128,
 }
 
-/// What a step is.
-#[derive(Clone, Copy)]
-pub(crate) enum Next {
-    Move(Move),
-    /// The columns of the fractional units are independent in the rows in force.
-    Independent,
-    /// A number would pass its gate.
-    Wide,
-}
-
 /// The step along a direction.
-fn step_along(units: &Units, values: &[Value], rows: usize, front: &Front, line: Line) -> Next
+fn step_along(units: &Units, values: &[Value], rows: usize, front: &Front, line: Line) -> Next<Move>
     requires flying { IsFlying units.now (flight_of units.now values.now rows) }
     requires front { IsFront values.now front.now }
     requires line { HasDirection units.now (flight_of units.now values.now rows) line }
@@ -75,7 +65,7 @@ pub(crate) fn step(
     rows: usize,
     front: &Front,
     tables: &mut Tables,
-) -> Next
+) -> Next<Move>
     requires flying { IsFlying units.now (flight_of units.now values.now rows) }
     requires front { IsFront values.now front.now }
     ensures { IsStep units.now (flight_of units.now values.now rows) result }
@@ -92,7 +82,7 @@ fn step_found(
     rows: usize,
     front: &Front,
     searched: Searched,
-) -> Next
+) -> Next<Move>
     requires flying { IsFlying units.now (flight_of units.now values.now rows) }
     requires front { IsFront values.now front.now }
     requires is { let columns = columns_of units.now (take front.now.number front.now.units) in

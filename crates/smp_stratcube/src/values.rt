@@ -40,6 +40,7 @@ impl Value {
     }
 
     /// Its numerator over a multiple of its denominator.
+    #[tactic(auto, using(crate::proofs::Parts::over_within))]
     pub(crate) fn over(self, den: u128) -> u128
         requires { IsValue self }
         ensures is { result ≡ self.at.num * (den / self.at.den) }

@@ -13,8 +13,8 @@ use Rattle.smp_stratcube.specs.declared.ends.Gathered.{Gathered}
 use Rattle.smp_stratcube.specs.declared.fronts.Front.{Front}
 use Rattle.smp_stratcube.specs.declared.values.Value.{Value}
 use Rattle.smp_stratcube.specs.declared.steps.Move.{Move}
-use Rattle.smp_stratcube.specs.declared.steps.Next.{Next as Answer}
-use Rattle.smp_stratcube.specs.declared.steps.Next.TheVariants as answers
+use Rattle.smp_moves.specs.declared.steps.Next.{Next as AnswerOf}
+use Rattle.smp_moves.specs.declared.steps.Next.TheVariants as answers
 use Rattle.smp_stratcube.specs.Units.{Units}
 use Rattle.smp_stratcube.specs.Values.{AreValues, over_common, value, common_of}
 use Rattle.smp_stratcube.specs.States.{Flight}
@@ -58,6 +58,10 @@ pub record IsMoveOf (units : Units) (f : Flight) (m : Move) : Type 0 where
   pub minus : m.minus_weight ≡ (next_along (setting_of units) f.values (line_of m.line)).minus_weight
   pub up : IsAlong (length units.members) f.values m.line m.den m.up
   pub down : m.down ≡ reach (over_common m.den f.values) (turned (line_of m.line))
+
+-- a step of the flight as the code answers it
+abbrev pub Answer : Type 0
+Answer = AnswerOf Move
 
 -- the answer is the next step
 abbrev pub IsStep : Units → Flight → Answer → Type 0
