@@ -1,9 +1,9 @@
 #!/usr/bin/env python3
-"""Tries edits many at once: the prover has to refuse each, as it refuses those of crates/NAME/must-fail/ one by one in the gate.
+"""Tries edits many at once: the prover has to refuse each, as it refuses those of crates/smp_tape/must-fail/ one by one in the gate.
 
     bench/edits.py                     the edits of edits/, of all crates
     bench/edits.py smp_near smp_log    those of these crates
-    bench/edits.py --gate smp_near     with those of crates/smp_near/must-fail/
+    bench/edits.py --gate smp_tape     with those of crates/smp_tape/must-fail/
     bench/edits.py --run               those of edits/CRATE/gate alone, over the libraries that `rt ci` has just left: a part of `.ci/run`
     bench/edits.py --look              only whether each can be applied: each `old:` text stands once in its file
     bench/edits.py --one smp_near      one check at a time, where as many as processors and memory allow run side by side
